@@ -1,0 +1,82 @@
+-- `first_below` meets its contract. Invariant: what the search finds from row k on is what the search from row 1 finds. Measure: the rows left.
+-- Assumes nothing.
+use Rattle.runfile.proofs.Below.{is-below, not-below}
+use Rattle.runfile.proofs.First.{From, hit, miss, over}
+use Rattle.runfile.specs.Refusals.{firstOffender, firstLaterRow, below}
+use Rattle.runfile.specs.Layout.{rowPlace}
+use denote.Ref.{now}
+use Prim.Native.Nat.{ℕ, _≤_, _-_}
+use mathlib.Core.List.{List}
+use mathlib.Core.Path.{_≡_, refl}
+use borrow.Author.Needs.{needs}
+use Rattle.runfile.proofs.offends.first_below.Statement.{statement}
+use Rattle.runfile.proofs.offends.first_below.Tie as tie
+
+abbrev Inv-loop : tie.InvT-loop
+Inv-loop file start rows k₀ k = (1 ≤ k) × (From (rowPlace start) (below file start) rows k ≡ firstOffender (rowPlace start) (below file start) 1 (rows - 1))
+
+abbrev μ-loop : tie.MeasureT-loop
+μ-loop file start rows k₀ k = rows - k
+
+loop-holds : tie.Need-loop-holds Inv-loop μ-loop
+loop-holds c = (search needs, refl)
+
+mul-place : tie.Need-mul-place Inv-loop μ-loop
+mul-place c = search needs
+
+add-place : tie.Need-add-place Inv-loop μ-loop
+add-place c = search needs
+
+sub-before : tie.Need-sub-before Inv-loop μ-loop
+sub-before c = search needs
+
+shared-slice-read-if1 : tie.Need-shared-slice-read-if1 Inv-loop μ-loop
+shared-slice-read-if1 c = search needs
+
+shared-slice-read-if1-2 : tie.Need-shared-slice-read-if1-2 Inv-loop μ-loop
+shared-slice-read-if1-2 c = search needs
+
+returns : tie.Need-returns Inv-loop μ-loop
+unfolding firstLaterRow
+returns c = let m = c .before .before in
+    let l = m .before .before in
+    let a = l .before .args in
+    let file : List ℕ = now (a .file) in
+    hit (rowPlace (a .start)) (below file (a .start)) (a .rows) (l .loop .k) _ (m .before .loop-test .taken) (is-below file (a .start) (l .loop .k) (l .loop .inv .0) (c .if1 .taken)) (l .loop .inv .1)
+
+add-k : tie.Need-add-k Inv-loop μ-loop
+add-k c = search needs
+
+loop-less : tie.Need-loop-less Inv-loop μ-loop
+loop-less c = search needs
+
+loop-again : tie.Need-loop-again Inv-loop μ-loop
+loop-again c = let m = c .before .before in
+    let l = m .before .before in
+    let a = l .before .args in
+    let file : List ℕ = now (a .file) in
+    (search needs, miss (rowPlace (a .start)) (below file (a .start)) (a .rows) (l .loop .k) _ (m .before .loop-test .taken) (not-below file (a .start) (l .loop .k) (l .loop .inv .0) (c .if1 .left)) (l .loop .inv .1))
+
+returns-2 : tie.Need-returns-2 Inv-loop μ-loop
+unfolding firstLaterRow
+returns-2 c = let l = c .before in
+    let a = l .before .args in
+    over (rowPlace (a .start)) (below (now (a .file)) (a .start)) (a .rows) (l .loop .k) _ (c .loop-test .left) (l .loop .inv .1)
+
+pub first-below-spec : {M : Type 1} → statement M
+first-below-spec =
+    tie.close
+    (tie.spec
+    Inv-loop
+    μ-loop
+    loop-holds
+    mul-place
+    add-place
+    sub-before
+    shared-slice-read-if1
+    shared-slice-read-if1-2
+    returns
+    add-k
+    loop-less
+    loop-again
+    returns-2)

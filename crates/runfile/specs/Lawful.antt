@@ -1,0 +1,183 @@
+-- What a file is like that is not refused: the facts that later layers use, read off the checks that found nothing.
+-- Assumes nothing.
+use Prim.Native.Nat.{ℕ, zero, suc, _+_, _*_, _-_, _/_, _%_, _≤_, _<_}
+use mathlib.Core.Path.{_≡_, refl, sym}
+use mathlib.Core.Bool.{Bool, true, false, cond, not, _&&_, _||_}
+use mathlib.Core.List.{List}
+use native.Mathlib.Omega.{arith}
+use lib.Dec.{leb, ltb, eqb}
+use lib.ListN.{getD, length, length-drop}
+use borrow.Author.Tests.{ltb-true, ltb-false, leb-false, eqb-false, eqb-true, not-false, eq-eqb, ne-eqb}
+use Rattle.runfile.specs.declared.Header.{Header}
+use Rattle.runfile.specs.declared.Row.{Row}
+use Rattle.runfile.specs.declared.Room.{Room}
+use Rattle.runfile.specs.declared.Found.the-variants.{Nowhere, At}
+use Rattle.runfile.specs.declared.Checked.the-variants.{Accepted}
+use Rattle.runfile.specs.Layout.{headSize, longestFile, marked, headerIn, rowsStart, rowPlace, scheduleStart, scheduleIn, lengthGiven}
+use Rattle.runfile.specs.Actions.{crashAll, none, actionOf}
+use Rattle.runfile.specs.Refusals.{outOfRange, badFields, sameFields, badAction, badByte, firstOffender, firstRow, firstLaterRow, firstByte, badRow, below, same, found, headChecks, bodyChecks, fileChecks, roomChecks, inOrder, refusalOf}
+use Rattle.runfile.specs.Table.{Marked, rowOf, zeroByteOf, byteOf}
+use Rattle.runfile.specs.Order.{Clear, clear-parts, accepts, whole-clear}
+
+-- refusals 2 to 8 are not given
+pub record LawfulHead (h : Header) (f : List ℕ) : Type 0 where
+  pub mark : Marked f
+  pub version : h .version ≡ 1
+  pub some-process : 1 ≤ h .processes
+  pub processes : h .processes ≤ 16
+  pub some-word : 1 ≤ h .words
+  pub words : h .words ≤ 16
+  pub rows : h .rows ≤ 512
+  pub steps : h .steps ≤ 1024
+  pub exact : length f ≡ lengthGiven h
+
+-- refusal 9 is not given for this row, with this zero byte
+pub record LawfulRow (h : Header) (row : Row) (zeroByte : ℕ) : Type 0 where
+  pub process : row .process < h .processes
+  pub kind : row .kind ≤ 1
+  pub word : row .word < h .words
+  pub zero-byte : zeroByte ≡ 0
+  pub read-old : row .kind ≡ 0 → row .old ≡ 0
+  pub read-new : row .kind ≡ 0 → row .new ≡ 0
+
+-- refusal 12 is not given for this byte: a step, crash or wake of a process below P, or a crash of all
+pub data LawfulByte (processes byte : ℕ) : Type 0 where
+  of-one : byte / 16 < 3 → byte % 16 < processes → LawfulByte processes byte
+  of-all : byte / 16 ≡ 15 → byte % 16 ≡ 0 → LawfulByte processes byte
+
+-- a file that is not refused, with buffers of these lengths
+pub record Lawful (h : Header) (f : List ℕ) (room : Room) : Type 0 where
+  pub header : h ≡ headerIn f
+  pub long : headSize ≤ length f
+  pub head : LawfulHead h f
+  pub rows : (k : ℕ) → k < h .rows → LawfulRow h (rowOf h f k) (zeroByteOf h f k)
+  pub ordered : (k : ℕ) → suc k < h .rows → rowOf h f k .process ≤ rowOf h f (suc k) .process
+  pub differ : (k : ℕ) → k < h .rows → rowOf h f k .kind ≡ 1 → rowOf h f k .old ≡ rowOf h f k .new → ⊥
+  pub actions : (i : ℕ) → i < h .steps → LawfulByte (h .processes) (byteOf h f i)
+  pub schedule : length (scheduleIn h f) ≡ h .steps
+  pub words-room : h .words ≤ room .words
+  pub log-room : 5 * h .steps ≤ room .log
+  pub answers-room : 5 * h .steps ≤ room .answers
+
+-- tests that came out false, taken apart
+neither : (a b : Bool) → (a || b) ≡ false → (a ≡ false) × (b ≡ false)
+neither true b e = absurd (let z : _≡_ {A = Bool} true false = e in let y : _≡_ {A = ℕ} 0 1 = cc in omega arith)
+neither false b e = (refl, e)
+
+not-both : (a b : Bool) → (a && b) ≡ false → a ≡ true → b ≡ false
+not-both true b e q = e
+not-both false b e q = absurd (let y : _≡_ {A = ℕ} 0 1 = cc in omega arith)
+
+pub in-range : (n : ℕ) → outOfRange n ≡ false → (1 ≤ n) × (n ≤ 16)
+in-range n e = let q = neither (eqb n 0) (ltb 16 n) e in (positive n (eqb-false n 0 (q .0)), ltb-false 16 n (q .1))
+  where
+    positive : (n : ℕ) → (n ≡ 0 → ⊥) → 1 ≤ n
+    positive zero h = absurd (h refl)
+    positive (suc n) h = omega arith
+
+pub has-mark : (f : List ℕ) → marked f ≡ true → Marked f
+unfolding marked
+has-mark f e = go (eqb (getD f 0 0) 83) (eqb (getD f 1 0) 87) (eqb (getD f 2 0) 82) refl refl refl e
+  where
+    go : (a b c : Bool) → eqb (getD f 0 0) 83 ≡ a → eqb (getD f 1 0) 87 ≡ b → eqb (getD f 2 0) 82 ≡ c → (a && (b && c)) ≡ true → Marked f
+    go true true true p q r e = (eqb-true _ _ p, eqb-true _ _ q, eqb-true _ _ r)
+    go true true false p q r e = absurd (let y : _≡_ {A = ℕ} 0 1 = cc in omega arith)
+    go true false c p q r e = absurd (let y : _≡_ {A = ℕ} 0 1 = cc in omega arith)
+    go false b c p q r e = absurd (let y : _≡_ {A = ℕ} 0 1 = cc in omega arith)
+
+pub lawful-head : (h : Header) (f : List ℕ) (room : Room) → Clear (found h f room) headChecks → LawfulHead h f
+lawful-head h f room c =
+    let r = c .1 .1 in
+    let p = in-range (h .processes) (whole-clear (outOfRange (h .processes)) (r .0)) in
+    let w = in-range (h .words) (whole-clear (outOfRange (h .words)) (r .1 .0)) in
+    record {
+      mark = has-mark f (not-false (marked f) (whole-clear (not (marked f)) (c .0)));
+      version = eqb-true (h .version) 1 (not-false (eqb (h .version) 1) (whole-clear (not (eqb (h .version) 1)) (c .1 .0)));
+      some-process = p .0;
+      processes = p .1;
+      some-word = w .0;
+      words = w .1;
+      rows = ltb-false 512 (h .rows) (whole-clear (ltb 512 (h .rows)) (r .1 .1 .0));
+      steps = ltb-false 1024 (h .steps) (whole-clear (ltb 1024 (h .steps)) (r .1 .1 .1 .0));
+      exact = eqb-true (length f) (lengthGiven h) (not-false (eqb (length f) (lengthGiven h)) (whole-clear (not (eqb (length f) (lengthGiven h))) (r .1 .1 .1 .1 .0)));
+    }
+
+-- "The longest file has 5,195 bytes."
+pub longest : (h : Header) (f : List ℕ) → LawfulHead h f → length f ≤ longestFile
+longest h f l = let a = l .words in let b = l .rows in let c = l .steps in let e = l .exact in omega arith
+
+pub lawful-row : (h : Header) (row : Row) (zeroByte : ℕ) → badFields h row zeroByte ≡ false → LawfulRow h row zeroByte
+unfolding badFields
+lawful-row h row z e =
+    let reading : Bool = eqb (row .kind) 0 && (not (eqb (row .old) 0) || not (eqb (row .new) 0)) in
+    let a = neither (leb (h .processes) (row .process)) (ltb 1 (row .kind) || (leb (h .words) (row .word) || (not (eqb z 0) || reading))) e in
+    let b = neither (ltb 1 (row .kind)) (leb (h .words) (row .word) || (not (eqb z 0) || reading)) (a .1) in
+    let c = neither (leb (h .words) (row .word)) (not (eqb z 0) || reading) (b .1) in
+    let d = neither (not (eqb z 0)) reading (c .1) in
+    let zeros : (q : row .kind ≡ 0) → (not (eqb (row .old) 0) ≡ false) × (not (eqb (row .new) 0) ≡ false) =
+    λ q. neither (not (eqb (row .old) 0)) (not (eqb (row .new) 0)) (not-both (eqb (row .kind) 0) _ (d .1) (eq-eqb (row .kind) 0 q)) in
+    record {
+      process = leb-false _ _ (a .0);
+      kind = ltb-false _ _ (b .0);
+      word = leb-false _ _ (c .0);
+      zero-byte = eqb-true _ _ (not-false _ (d .0));
+      read-old = λ q. eqb-true _ _ (not-false _ (zeros q .0));
+      read-new = λ q. eqb-true _ _ (not-false _ (zeros q .1));
+    }
+
+-- from 3 on only 15 is an action
+pub high-action : (high : ℕ) → 3 ≤ high → actionOf high ≡ cond (eqb high 15) crashAll none
+high-action high h = simp (ne-eqb high 0 (λ e. omega arith), ne-eqb high 1 (λ e. omega arith), ne-eqb high 2 (λ e. omega arith))
+
+pub lawful-byte : (processes byte : ℕ) → badByte processes byte ≡ false → LawfulByte processes byte
+unfolding badByte
+lawful-byte processes byte e = go (byte / 16) refl e
+  where
+    all : (t : Bool) → eqb (byte / 16) 15 ≡ t → badAction processes (byte % 16) (cond t crashAll none) ≡ false → LawfulByte processes byte
+    all true q e = of-all (eqb-true _ _ q) (eqb-true _ _ (not-false _ e))
+    all false q e = absurd (let y : _≡_ {A = ℕ} 0 1 = cc in omega arith)
+
+    go : (high : ℕ) → byte / 16 ≡ high → badAction processes (byte % 16) (actionOf high) ≡ false → LawfulByte processes byte
+    go zero q e = of-one (omega arith) (leb-false processes (byte % 16) e)
+    go (suc zero) q e = of-one (omega arith) (leb-false processes (byte % 16) e)
+    go (suc (suc zero)) q e = of-one (omega arith) (leb-false processes (byte % 16) e)
+    go (suc (suc (suc n))) q e = all (eqb (byte / 16) 15) refl (rw (← q, high-action (byte / 16) (omega arith)) at e)
+
+-- a search that found nothing passed nothing that offends
+none-offends : (place : ℕ → ℕ) (offends : ℕ → Bool) (k n : ℕ) → firstOffender place offends k n ≡ Nowhere → (j : ℕ) → k ≤ j → j < k + n → offends j ≡ false
+none-offends place offends k zero e j a b = absurd (omega arith)
+none-offends place offends k (suc n) e j a b = go (offends k) refl e (none-offends place offends (suc k) n) (ltb k j) refl
+  where
+    go : (t : Bool) → offends k ≡ t → cond t (At (place k)) (firstOffender place offends (suc k) n) ≡ Nowhere
+        → (firstOffender place offends (suc k) n ≡ Nowhere → (j : ℕ) → suc k ≤ j → j < suc k + n → offends j ≡ false)
+        → (later : Bool) → ltb k j ≡ later → offends j ≡ false
+    go true q e more later l = absurd (let y : _≡_ {A = ℕ} 0 1 = cc in omega arith)
+    go false q e more true l = more e j (let h = ltb-true k j l in omega arith) (omega arith)
+    go false q e more false l = let same : j ≡ k = (let h = ltb-false k j l in omega arith) in rw same q
+
+pub lawful : (f : List ℕ) (room : Room) (h : Header) → refusalOf f room ≡ Accepted h → Lawful h f room
+unfolding refusalOf firstRow firstLaterRow firstByte sameFields
+lawful f room h e =
+    let g : Header = headerIn f in
+    let a = accepts (found g f room) g inOrder h e in
+    let finds = found h f room in
+    let c : Clear finds inOrder = rw (a .0) at (a .1) in
+    let d = clear-parts finds fileChecks roomChecks c in
+    let b = clear-parts finds headChecks bodyChecks (d .0 .1) in
+    let head = lawful-head h f room (b .0) in
+    let body = b .1 in
+    let start : ℕ = rowsStart h in
+    let steps : length (scheduleIn h f) ≡ h .steps = simp length-drop (let x = head .exact in omega arith) in
+    record {
+      header = sym (a .0);
+      long = ltb-false (length f) headSize (whole-clear (ltb (length f) headSize) (d .0 .0));
+      head = head;
+      rows = λ k l. lawful-row h (rowOf h f k) (zeroByteOf h f k) (none-offends (rowPlace start) (badRow h f start) 0 (h .rows) (body .0) k (omega arith) (omega arith));
+      ordered = λ k l. ltb-false (rowOf h f (suc k) .process) (rowOf h f k .process) (let back : suc k - 1 ≡ k = omega arith in rw back at (none-offends (rowPlace start) (below f start) 1 (h .rows - 1) (body .1 .0) (suc k) (omega arith) (omega arith)));
+      differ = λ k l q. eqb-false (rowOf h f k .old) (rowOf h f k .new) (not-both (eqb (rowOf h f k .kind) 1) (eqb (rowOf h f k .old) (rowOf h f k .new)) (none-offends (rowPlace start) (same f start) 0 (h .rows) (body .1 .1 .0) k (omega arith) (omega arith)) (eq-eqb (rowOf h f k .kind) 1 q));
+      actions = λ i l. lawful-byte (h .processes) (byteOf h f i) (none-offends (λ j. scheduleStart h + j) (λ j. badByte (h .processes) (byteOf h f j)) 0 (length (scheduleIn h f)) (body .1 .1 .1 .0) i (omega arith) (omega arith));
+      schedule = steps;
+      words-room = ltb-false (room .words) (h .words) (whole-clear (ltb (room .words) (h .words)) (d .1 .0));
+      log-room = ltb-false (room .log) (5 * h .steps) (whole-clear (ltb (room .log) (5 * h .steps)) (d .1 .1 .0));
+      answers-room = ltb-false (room .answers) (5 * h .steps) (whole-clear (ltb (room .answers) (5 * h .steps)) (d .1 .1 .1 .0));
+    }

@@ -1,0 +1,76 @@
+-- Where the parts of a run file stand, and their fields: document 01, "The run file".
+-- A file is the list of its bytes. Everything here is total: a byte past the end counts as 0.
+-- Assumes nothing.
+use Prim.Native.Nat.{ℕ, _+_, _*_}
+use mathlib.Core.Bool.{Bool, _&&_}
+use mathlib.Core.List.{List}
+use lib.Dec.{eqb}
+use lib.ListN.{getD, drop}
+use Rattle.runfile.specs.declared.Header.{Header}
+use Rattle.runfile.specs.declared.Row.{Row}
+
+-- the bytes of the header, of a word and of a row; and "The longest file has 5,195 bytes."
+abbrev pub headSize : ℕ
+headSize = 11
+
+abbrev pub wordSize : ℕ
+wordSize = 4
+
+abbrev pub rowSize : ℕ
+rowSize = 8
+
+abbrev pub longestFile : ℕ
+longestFile = 5195
+
+abbrev pub byteAt : List ℕ → ℕ → ℕ
+byteAt f at = getD f at 0
+
+-- "Numbers are little-endian."
+unfoldable pub u16At : List ℕ → ℕ → ℕ
+u16At f at = byteAt f at + byteAt f (at + 1) * 256
+
+unfoldable pub u32At : List ℕ → ℕ → ℕ
+u32At f at = byteAt f at + byteAt f (at + 1) * 256 + byteAt f (at + 2) * 65536 + byteAt f (at + 3) * 16777216
+
+-- "Three bytes `SWR`"
+unfoldable pub marked : List ℕ → Bool
+marked f = eqb (byteAt f 0) 83 && (eqb (byteAt f 1) 87 && eqb (byteAt f 2) 82)
+
+-- "a 16-bit version, 1; process count P (1 byte); word count W (1 byte); row count (2 bytes); schedule length S (2 bytes)."
+unfoldable pub headerIn : List ℕ → Header
+headerIn f = record { version = u16At f 3; processes = byteAt f 5; words = byteAt f 6; rows = u16At f 7; steps = u16At f 9 }
+
+-- "Then W words of 4 bytes": the start word i
+abbrev pub wordPlace : ℕ → ℕ
+wordPlace i = headSize + i * wordSize
+
+abbrev pub wordIn : List ℕ → ℕ → ℕ
+wordIn f i = u32At f (wordPlace i)
+
+-- "the operation rows of 8 bytes": where they begin, and where row k of those that begin at `start` stands
+abbrev pub rowsStart : Header → ℕ
+rowsStart h = wordPlace (h .words)
+
+abbrev pub rowPlace : ℕ → ℕ → ℕ
+rowPlace start k = start + k * rowSize
+
+-- "A row: process, kind, word, a zero byte, then old and new (2 bytes each)."
+unfoldable pub rowAt : List ℕ → ℕ → Row
+rowAt f at = record { process = byteAt f at; kind = byteAt f (at + 1); word = byteAt f (at + 2); old = u16At f (at + 4); new = u16At f (at + 6) }
+
+abbrev pub zeroByteAt : List ℕ → ℕ → ℕ
+zeroByteAt f at = byteAt f (at + 3)
+
+abbrev pub rowIn : List ℕ → ℕ → ℕ → Row
+rowIn f start k = rowAt f (rowPlace start k)
+
+-- "the schedule bytes, and nothing more. The schedule is the part of the file that begins after the last row."
+abbrev pub scheduleStart : Header → ℕ
+scheduleStart h = rowPlace (rowsStart h) (h .rows)
+
+abbrev pub scheduleIn : Header → List ℕ → List ℕ
+scheduleIn h f = drop (scheduleStart h) f
+
+-- the length that a header gives its file
+abbrev pub lengthGiven : Header → ℕ
+lengthGiven h = scheduleStart h + h .steps

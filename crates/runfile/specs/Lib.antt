@@ -1,0 +1,9 @@
+pub mod Layout
+pub mod Actions
+pub mod Refusals
+pub mod Table
+pub mod Order
+pub mod Lawful
+pub mod Exactly
+pub mod Promises
+pub mod Instances

@@ -1,0 +1,148 @@
+-- What is refused: document 01, "Refusal numbers", as a computation. `found` is the table, a line for each of its lines.
+-- Table.antt says the same in propositions, and Exactly.antt proves that the two agree.
+-- Assumes nothing.
+use Prim.Native.Nat.{ℕ, zero, suc, _+_, _*_, _-_}
+use mathlib.Core.Bool.{Bool, true, false, cond, not, _&&_, _||_}
+use mathlib.Core.List.{List, [], _∷_, _++_}
+use lib.Dec.{leb, ltb, eqb}
+use lib.ListN.{getD, length}
+use Rattle.runfile.specs.declared.Header.{Header}
+use Rattle.runfile.specs.declared.Row.{Row}
+use Rattle.runfile.specs.declared.Room.{Room}
+use Rattle.runfile.specs.declared.Refusal.{Refusal}
+use Rattle.runfile.specs.declared.Refusal.the-variants as refusal
+use Rattle.runfile.specs.declared.Found.{Found}
+use Rattle.runfile.specs.declared.Found.the-variants.{Nowhere, At}
+use Rattle.runfile.specs.declared.Checked.{Checked}
+use Rattle.runfile.specs.declared.Checked.the-variants.{Accepted, Refused}
+use Rattle.runfile.specs.Layout.{headSize, marked, headerIn, rowsStart, rowPlace, rowIn, zeroByteAt, scheduleStart, scheduleIn, lengthGiven}
+use Rattle.runfile.specs.Actions.{Action, step, crash, wake, crashAll, none, action, named}
+
+-- the table's first column
+abbrev pub numberOf : Refusal → ℕ
+numberOf refusal.Short = 1
+numberOf refusal.Mark = 2
+numberOf refusal.Version = 3
+numberOf refusal.Processes = 4
+numberOf refusal.Words = 5
+numberOf refusal.Rows = 6
+numberOf refusal.Steps = 7
+numberOf refusal.Length = 8
+numberOf refusal.Row = 9
+numberOf refusal.Order = 10
+numberOf refusal.Same = 11
+numberOf refusal.Action = 12
+numberOf refusal.WordsRoom = 13
+numberOf refusal.LogRoom = 14
+numberOf refusal.AnswersRoom = 15
+
+-- P and W "are 1 to 16"
+abbrev pub outOfRange : ℕ → Bool
+outOfRange n = eqb n 0 || ltb 16 n
+
+-- 9: "a row's process, kind or word out of range, its zero byte not 0, or a read whose old or new is not 0"
+unfoldable pub badFields : Header → Row → ℕ → Bool
+badFields h row zeroByte =
+    leb (h .processes) (row .process)
+    || (ltb 1 (row .kind)
+    || (leb (h .words) (row .word) || (not (eqb zeroByte 0) || (eqb (row .kind) 0 && (not (eqb (row .old) 0) || not (eqb (row .new) 0))))))
+
+abbrev pub badRow : Header → List ℕ → ℕ → ℕ → Bool
+badRow h f start k = badFields h (rowIn f start k) (zeroByteAt f (rowPlace start k))
+
+-- 10: "a row's process is below that of the row before"
+abbrev pub below : List ℕ → ℕ → ℕ → Bool
+below f start k = ltb (rowIn f start k .process) (rowIn f start (k - 1) .process)
+
+-- 11: "a compare row with old equal to new"
+unfoldable pub sameFields : Row → Bool
+sameFields row = eqb (row .kind) 1 && eqb (row .old) (row .new)
+
+abbrev pub same : List ℕ → ℕ → ℕ → Bool
+same f start k = sameFields (rowIn f start k)
+
+-- 12: "A byte is refused if its action is none, if its process is P or more for 0, 1 and 2, or if its low bits are not 0 for 15."
+abbrev pub badAction : ℕ → ℕ → Action → Bool
+badAction processes low step = leb processes low
+badAction processes low crash = leb processes low
+badAction processes low wake = leb processes low
+badAction processes low crashAll = not (eqb low 0)
+badAction processes low none = true
+
+unfoldable pub badByte : ℕ → ℕ → Bool
+badByte processes byte = badAction processes (named byte) (action byte)
+
+-- the first offender among the numbers k, k + 1, .. (n of them), and its place
+abbrev pub firstOffender : (ℕ → ℕ) → (ℕ → Bool) → ℕ → ℕ → Found
+firstOffender place offends k zero = Nowhere
+firstOffender place offends k (suc n) = cond (offends k) (At (place k)) (firstOffender place offends (suc k) n)
+
+-- over the n rows from `start` on, the row's first byte; over those that have a row before; over the schedule, that byte; of the file as a whole, 0
+unfoldable pub firstRow : ℕ → ℕ → (ℕ → Bool) → Found
+firstRow start n offends = firstOffender (rowPlace start) offends 0 n
+
+unfoldable pub firstLaterRow : ℕ → ℕ → (ℕ → Bool) → Found
+firstLaterRow start n offends = firstOffender (rowPlace start) offends 1 (n - 1)
+
+unfoldable pub firstByte : ℕ → ℕ → List ℕ → Found
+firstByte start processes bytes = firstOffender (λ i. start + i) (λ i. badByte processes (getD bytes i 0)) 0 (length bytes)
+
+abbrev pub whole : Bool → Found
+whole true = At 0
+whole false = Nowhere
+
+-- the table: what each check finds, over the whole file
+abbrev pub found : Header → List ℕ → Room → Refusal → Found
+found h f room refusal.Short = whole (ltb (length f) headSize)
+found h f room refusal.Mark = whole (not (marked f))
+found h f room refusal.Version = whole (not (eqb (h .version) 1))
+found h f room refusal.Processes = whole (outOfRange (h .processes))
+found h f room refusal.Words = whole (outOfRange (h .words))
+found h f room refusal.Rows = whole (ltb 512 (h .rows))
+found h f room refusal.Steps = whole (ltb 1024 (h .steps))
+found h f room refusal.Length = whole (not (eqb (length f) (lengthGiven h)))
+found h f room refusal.Row = firstRow (rowsStart h) (h .rows) (badRow h f (rowsStart h))
+found h f room refusal.Order = firstLaterRow (rowsStart h) (h .rows) (below f (rowsStart h))
+found h f room refusal.Same = firstRow (rowsStart h) (h .rows) (same f (rowsStart h))
+found h f room refusal.Action = firstByte (scheduleStart h) (h .processes) (scheduleIn h f)
+found h f room refusal.WordsRoom = whole (ltb (room .words) (h .words))
+found h f room refusal.LogRoom = whole (ltb (room .log) (5 * h .steps))
+found h f room refusal.AnswersRoom = whole (ltb (room .answers) (5 * h .steps))
+
+-- "Checks go in this order. Each check goes over the whole file before the next begins, and the first offender is reported."
+abbrev pub orElse : Refusal → Found → Checked → Checked
+orElse why (At place) later = Refused why place
+orElse why Nowhere later = later
+
+abbrev pub firstOf : (Refusal → Found) → List Refusal → Header → Checked
+firstOf finds [] h = Accepted h
+firstOf finds (why ∷ later) h = orElse why (finds why) (firstOf finds later h)
+
+abbrev pub countChecks : List Refusal
+countChecks = refusal.Version ∷ refusal.Processes ∷ refusal.Words ∷ refusal.Rows ∷ refusal.Steps ∷ []
+
+abbrev pub headChecks : List Refusal
+headChecks = refusal.Mark ∷ (countChecks ++ (refusal.Length ∷ []))
+
+abbrev pub bodyChecks : List Refusal
+bodyChecks = refusal.Row ∷ refusal.Order ∷ refusal.Same ∷ refusal.Action ∷ []
+
+abbrev pub roomChecks : List Refusal
+roomChecks = refusal.WordsRoom ∷ refusal.LogRoom ∷ refusal.AnswersRoom ∷ []
+
+abbrev pub fileChecks : List Refusal
+fileChecks = refusal.Short ∷ (headChecks ++ bodyChecks)
+
+abbrev pub inOrder : List Refusal
+inOrder = fileChecks ++ roomChecks
+
+-- the whole answer
+unfoldable pub refusalOf : List ℕ → Room → Checked
+refusalOf f room = firstOf (found (headerIn f) f room) inOrder (headerIn f)
+
+-- refusals 1 to 12 alone: they look at no buffer
+abbrev pub noRoom : Room
+noRoom = record { words = 0; log = 0; answers = 0 }
+
+unfoldable pub fileRefusal : List ℕ → Checked
+fileRefusal f = firstOf (found (headerIn f) f noRoom) fileChecks (headerIn f)

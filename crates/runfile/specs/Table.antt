@@ -1,0 +1,84 @@
+-- The table of refusals in propositions, line by line: document 01, "Refusal numbers". `Given h f room why at` is the column
+-- "Given exactly when" with the column "Place": h is the file's header, f its bytes, room the lengths of the three buffers.
+-- Assumes nothing.
+use Prim.Native.Nat.{ℕ, _+_, _*_, _-_, _/_, _%_, _≤_, _<_}
+use mathlib.Core.Path.{_≡_}
+use mathlib.Core.Logic.{_⊎_}
+use mathlib.Core.List.{List}
+use lib.ListN.{getD, length}
+use Rattle.runfile.specs.declared.Header.{Header}
+use Rattle.runfile.specs.declared.Row.{Row}
+use Rattle.runfile.specs.declared.Room.{Room}
+use Rattle.runfile.specs.declared.Refusal.{Refusal}
+use Rattle.runfile.specs.declared.Refusal.the-variants as refusal
+use Rattle.runfile.specs.Layout.{byteAt, rowsStart, rowPlace, rowIn, zeroByteAt, scheduleStart, scheduleIn, lengthGiven}
+use Rattle.runfile.specs.Refusals.{numberOf}
+
+-- 2: the mark is `SWR`
+abbrev pub Marked : List ℕ → Type 0
+Marked f = (byteAt f 0 ≡ 83) × (byteAt f 1 ≡ 87) × (byteAt f 2 ≡ 82)
+
+-- 9: "a row's process, kind or word out of range, its zero byte not 0, or a read whose old or new is not 0"
+pub data BadRow (h : Header) (row : Row) (zeroByte : ℕ) : Type 0 where
+  process : h .processes ≤ row .process → BadRow h row zeroByte
+  kind : 1 < row .kind → BadRow h row zeroByte
+  word : h .words ≤ row .word → BadRow h row zeroByte
+  zero-byte : (zeroByte ≡ 0 → ⊥) → BadRow h row zeroByte
+  read-old : row .kind ≡ 0 → (row .old ≡ 0 → ⊥) → BadRow h row zeroByte
+  read-new : row .kind ≡ 0 → (row .new ≡ 0 → ⊥) → BadRow h row zeroByte
+
+-- 12: "A byte is refused if its action is none, if its process is P or more for 0, 1 and 2, or if its low bits are not 0 for 15."
+pub data BadByte (processes byte : ℕ) : Type 0 where
+  no-action : 3 ≤ byte / 16 → (byte / 16 ≡ 15 → ⊥) → BadByte processes byte
+  no-process : byte / 16 < 3 → processes ≤ byte % 16 → BadByte processes byte
+  low-bits : byte / 16 ≡ 15 → (byte % 16 ≡ 0 → ⊥) → BadByte processes byte
+
+-- "the first offender is reported": of the n numbers from `from` on, the first that is bad, and its place
+pub record First (from n : ℕ) (place : ℕ → ℕ) (Bad : ℕ → Type 0) (at : ℕ) : Type 0 where
+  pub which : ℕ
+  pub after : from ≤ which
+  pub within : which < from + n
+  pub bad : Bad which
+  pub none-before : (j : ℕ) → from ≤ j → j < which → Bad j → ⊥
+  pub here : at ≡ place which
+
+-- the row's first byte; that byte
+abbrev pub FirstRow : Header → (ℕ → Type 0) → ℕ → Type 0
+FirstRow h Bad at = First 0 (h .rows) (rowPlace (rowsStart h)) Bad at
+
+abbrev pub FirstLaterRow : Header → (ℕ → Type 0) → ℕ → Type 0
+FirstLaterRow h Bad at = First 1 (h .rows - 1) (rowPlace (rowsStart h)) Bad at
+
+abbrev pub FirstByte : Header → List ℕ → (ℕ → Type 0) → ℕ → Type 0
+FirstByte h f Bad at = First 0 (length (scheduleIn h f)) (λ i. scheduleStart h + i) Bad at
+
+-- the fields of row k, and byte i of the schedule
+abbrev pub rowOf : Header → List ℕ → ℕ → Row
+rowOf h f k = rowIn f (rowsStart h) k
+
+abbrev pub zeroByteOf : Header → List ℕ → ℕ → ℕ
+zeroByteOf h f k = zeroByteAt f (rowPlace (rowsStart h) k)
+
+abbrev pub byteOf : Header → List ℕ → ℕ → ℕ
+byteOf h f i = getD (scheduleIn h f) i 0
+
+abbrev pub Given : Header → List ℕ → Room → Refusal → ℕ → Type 0
+Given h f room refusal.Short at = (length f < 11) × (at ≡ 0)
+Given h f room refusal.Mark at = (Marked f → ⊥) × (at ≡ 0)
+Given h f room refusal.Version at = (h .version ≡ 1 → ⊥) × (at ≡ 0)
+Given h f room refusal.Processes at = ((h .processes ≡ 0) ⊎ (16 < h .processes)) × (at ≡ 0)
+Given h f room refusal.Words at = ((h .words ≡ 0) ⊎ (16 < h .words)) × (at ≡ 0)
+Given h f room refusal.Rows at = (512 < h .rows) × (at ≡ 0)
+Given h f room refusal.Steps at = (1024 < h .steps) × (at ≡ 0)
+Given h f room refusal.Length at = (length f ≡ lengthGiven h → ⊥) × (at ≡ 0)
+Given h f room refusal.Row at = FirstRow h (λ k. BadRow h (rowOf h f k) (zeroByteOf h f k)) at
+Given h f room refusal.Order at = FirstLaterRow h (λ k. rowOf h f k .process < rowOf h f (k - 1) .process) at
+Given h f room refusal.Same at = FirstRow h (λ k. (rowOf h f k .kind ≡ 1) × (rowOf h f k .old ≡ rowOf h f k .new)) at
+Given h f room refusal.Action at = FirstByte h f (λ i. BadByte (h .processes) (byteOf h f i)) at
+Given h f room refusal.WordsRoom at = (room .words < h .words) × (at ≡ 0)
+Given h f room refusal.LogRoom at = (room .log < 5 * h .steps) × (at ≡ 0)
+Given h f room refusal.AnswersRoom at = (room .answers < 5 * h .steps) × (at ≡ 0)
+
+-- "Checks go in this order."
+abbrev pub Earlier : Refusal → Refusal → Type 0
+Earlier e why = numberOf e < numberOf why

@@ -1,0 +1,121 @@
+// Who offends: the test of one row or byte, and the search for the first that fails it (refusals 9 to 12).
+use super::Found;
+use super::Header;
+use super::read::u16_at;
+ghost use mathlib.Core.Path.{_≡_};
+ghost use Prim.Native.Nat.{_+_, _≤_};
+ghost use lib.ListN.{length};
+ghost use Rattle.runfile.specs.Layout.{rowAt, rowPlace, zeroByteAt, longestFile};
+ghost use Rattle.runfile.specs.Refusals.{badFields, sameFields, badByte, badRow, below, same, firstRow, firstLaterRow, firstByte};
+
+// Refusal 9, of the row at a place.
+fn is_bad_row(file: &[u8], at: usize, header: Header) -> bool
+    requires { ⌜ at + 8 ≤ length (now file) ⌝ }
+    ensures { λ r. ⌜ r ≡ badFields header (rowAt (now (file .entry)) at) (zeroByteAt (now (file .entry)) at) ⌝ }
+{
+    if file[at] >= header.processes {
+        return true;
+    }
+    if file[at + 1] > 1 {
+        return true;
+    }
+    if file[at + 2] >= header.words {
+        return true;
+    }
+    if file[at + 3] != 0 {
+        return true;
+    }
+    if file[at + 1] != 0 {
+        return false;
+    }
+    if u16_at(file, at + 4) != 0 {
+        return true;
+    }
+    u16_at(file, at + 6) != 0
+}
+
+// Refusal 11, of the row at a place.
+fn is_same(file: &[u8], at: usize) -> bool
+    requires { ⌜ at + 8 ≤ length (now file) ⌝ }
+    ensures { λ r. ⌜ r ≡ sameFields (rowAt (now (file .entry)) at) ⌝ }
+{
+    if file[at + 1] != 1 {
+        return false;
+    }
+    u16_at(file, at + 4) == u16_at(file, at + 6)
+}
+
+// Refusal 12, of one byte: 0 step, 1 crash and 2 wake name a process, 3 to 14 are no action, 15 names none.
+fn is_bad_byte(byte: u8, processes: u8) -> bool
+    ensures { λ r. ⌜ r ≡ badByte processes byte ⌝ }
+{
+    match byte / 16 {
+        0..=2 => byte % 16 >= processes,
+        3..=14 => true,
+        _ => byte % 16 != 0,
+    }
+}
+
+// Refusal 9: the first of the rows that begin at `start` with a field out of range.
+pub fn first_bad_row(file: &[u8], start: usize, rows: usize, header: Header) -> Found
+    requires { ⌜ rowPlace start rows ≤ length (now file) ⌝ }
+    ensures { λ r. ⌜ r ≡ firstRow start rows (badRow header (now (file .entry)) start) ⌝ }
+{
+    let mut k = 0;
+    while k < rows {
+        let at = start + k * 8;
+        if is_bad_row(file, at, header) {
+            return Found::At(at);
+        }
+        k += 1;
+    }
+    Found::Nowhere
+}
+
+// Refusal 10: the first row whose process is below that of the row before, so from the second row on.
+pub fn first_below(file: &[u8], start: usize, rows: usize) -> Found
+    requires { ⌜ rowPlace start rows ≤ length (now file) ⌝ }
+    ensures { λ r. ⌜ r ≡ firstLaterRow start rows (below (now (file .entry)) start) ⌝ }
+{
+    let mut k = 1;
+    while k < rows {
+        let place = start + k * 8;
+        let before = place - 8;
+        if file[place] < file[before] {
+            return Found::At(place);
+        }
+        k += 1;
+    }
+    Found::Nowhere
+}
+
+// Refusal 11: the first compare row with old equal to new.
+pub fn first_same(file: &[u8], start: usize, rows: usize) -> Found
+    requires { ⌜ rowPlace start rows ≤ length (now file) ⌝ }
+    ensures { λ r. ⌜ r ≡ firstRow start rows (same (now (file .entry)) start) ⌝ }
+{
+    let mut k = 0;
+    while k < rows {
+        let at = start + k * 8;
+        if is_same(file, at) {
+            return Found::At(at);
+        }
+        k += 1;
+    }
+    Found::Nowhere
+}
+
+// Refusal 12: the first byte that is no action. The schedule is the part of the file that begins at `start`.
+pub fn first_bad_byte(schedule: &[u8], start: usize, processes: u8) -> Found
+    requires { ⌜ start + length (now schedule) ≤ longestFile ⌝ }
+    ensures { λ r. ⌜ r ≡ firstByte start processes (now (schedule .entry)) ⌝ }
+{
+    let mut i = 0;
+    while i < schedule.len() {
+        if is_bad_byte(schedule[i], processes) {
+            return Found::At(start + i);
+        }
+        i += 1;
+    }
+    Found::Nowhere
+}
