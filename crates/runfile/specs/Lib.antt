@@ -1,4 +1,7 @@
 pub mod Layout
+pub mod Operations
+pub mod OperationLaws
+pub mod Lines
 pub mod Actions
 pub mod Refusals
 pub mod Table

@@ -2,20 +2,25 @@
 //
 // `check` is the one door: every byte string is accepted, with its header by value, or refused by one
 // number and one place. Nothing is asked of its caller. The meaning of every answer stands in specs/Refusals.
+mod lines;
 mod offends;
 mod read;
 
+pub use lines::counts_of;
+pub use lines::firsts_of;
 use offends::first_bad_byte;
 use offends::first_bad_row;
 use offends::first_below;
 use offends::first_same;
 use read::has_mark;
 use read::header_of;
-use read::index8;
-use read::index16;
+pub use read::index8;
+pub use read::index16;
 use read::length_given;
-use read::rows_start;
-use read::schedule_start;
+pub use read::row_at;
+pub use read::rows_start;
+pub use read::schedule_start;
+pub use read::u32_at;
 ghost use mathlib.Core.Path.{_≡_};
 ghost use mathlib.Core.List.{List};
 ghost use Prim.Native.Nat.{ℕ, _≤_};

@@ -1,9 +1,10 @@
 // Little-endian reads, the header by value, and where the parts begin that it gives.
 use super::Header;
+use super::Row;
 ghost use mathlib.Core.Path.{_≡_};
 ghost use Prim.Native.Nat.{_+_, _*_, _≤_, _<_};
 ghost use lib.ListN.{length};
-ghost use Rattle.runfile.specs.Layout.{headSize, u16At, marked, headerIn, rowsStart, scheduleStart, lengthGiven};
+ghost use Rattle.runfile.specs.Layout.{headSize, u16At, u32At, rowAt, marked, headerIn, rowsStart, scheduleStart, lengthGiven};
 
 // A byte or a number of two bytes, widened: nothing is lost, and the bound goes with it.
 pub fn wide8(x: u8) -> u16
@@ -30,6 +31,38 @@ pub fn u16_at(file: &[u8], at: usize) -> u16
     ensures { λ r. ⌜ r ≡ u16At (now (file .entry)) at ⌝ }
 {
     wide8(file[at]) + wide8(file[at + 1]) * 256
+}
+
+fn wide32(x: u8) -> u32
+    ensures { λ r. ⌜ (r ≡ x) × (r < 256) ⌝ }
+{
+    x as u32
+}
+
+// A number of four bytes, low byte first.
+pub fn u32_at(file: &[u8], at: usize) -> u32
+    requires { ⌜ at + 4 ≤ length (now file) ⌝ }
+    ensures { λ r. ⌜ r ≡ u32At (now (file .entry)) at ⌝ }
+{
+    wide32(file[at])
+        + wide32(file[at + 1]) * 256
+        + wide32(file[at + 2]) * 65536
+        + wide32(file[at + 3]) * 16777216
+}
+
+// Row k of a table of rows.
+pub fn row_at(table: &[u8], k: usize) -> Row
+    requires { ⌜ k * 8 + 8 ≤ length (now table) ⌝ }
+    ensures { λ r. ⌜ r ≡ rowAt (now (table .entry)) (k * 8) ⌝ }
+{
+    let at = k * 8;
+    Row {
+        process: table[at],
+        kind: table[at + 1],
+        word: table[at + 2],
+        old: u16_at(table, at + 4),
+        new: u16_at(table, at + 6),
+    }
 }
 
 pub fn has_mark(file: &[u8]) -> bool

@@ -1,0 +1,37 @@
+-- A loop that brings records down one by one: before turn i the first i are down.
+-- Assumes nothing.
+use mathlib.Core.Path.{_≡_, refl, sym, ap, _∙_}
+use mathlib.Core.List.{List, [], _∷_, _++_, map, append-assoc, append-nil}
+use Prim.Native.Nat.{ℕ, suc, _+_, _<_}
+use native.Mathlib.Numerals.{add-one}
+use native.Mathlib.Omega.{arith}
+use lib.ListN.{length, getD, take, drop, set, length-map}
+use lib.Seq.{drop-cons, getD-at, set-at, take-suc, length-take-le, take-length, drop-length}
+use Rattle.machine.specs.declared.Process.{Process}
+use Rattle.machine.specs.Records.{crashed, nobody}
+
+map-append : (f : Process → Process) (xs ys : List Process) → map f (xs ++ ys) ≡ map f xs ++ map f ys
+map-append f [] ys = refl
+map-append f (x ∷ xs) ys = ap (λ (l : List Process). f x ∷ l) (map-append f xs ys)
+
+abbrev pub mixed : ℕ → List Process → List Process
+mixed i ps = map crashed (take i ps) ++ drop i ps
+
+module _ (i : ℕ) (ps : List Process) (h : i < length ps) where
+  front : length (map crashed (take i ps)) ≡ i
+  front = length-map (take i ps) crashed ∙ length-take-le i ps (omega arith)
+
+  same : getD (mixed i ps) i nobody ≡ getD ps i nobody
+  same = rw (drop-cons ps i nobody h) (getD-at (map crashed (take i ps)) (getD ps i nobody) (drop (suc i) ps) nobody i front)
+
+  pub mixed-step : set (mixed i ps) i (crashed (getD (mixed i ps) i nobody)) ≡ mixed (i + 1) ps
+  mixed-step =
+      rw (same, drop-cons ps i nobody h)
+      (set-at (map crashed (take i ps)) (getD ps i nobody) (drop (suc i) ps) (crashed (getD ps i nobody)) i front
+      ∙ rw (add-one i, take-suc ps i nobody h, map-append crashed (take i ps) (getD ps i nobody ∷ [])) (sym (append-assoc (map crashed (take i ps)) (crashed (getD ps i nobody) ∷ []) (drop (suc i) ps))))
+
+pub mixed-turn : (i : ℕ) (ps out : List Process) (x : Process) → i < length ps → out ≡ mixed i ps → x ≡ crashed (getD out i nobody) → set out i x ≡ mixed (i + 1) ps
+mixed-turn i ps out x h e f = rw (f, e) (mixed-step i ps h)
+
+pub mixed-end : (i : ℕ) (ps : List Process) → i ≡ length ps → mixed i ps ≡ map crashed ps
+mixed-end i ps e = rw (e, take-length ps, drop-length ps, append-nil (map crashed ps))

@@ -1,0 +1,46 @@
+-- `wake` meets its contract: by the status.
+-- Assumes nothing.
+use Rattle.machine.specs.Records.{waked}
+use mathlib.Core.Path.{sym, ap, _∙_}
+use borrow.Author.Needs.{needs}
+use Rattle.machine.proofs.records.wake.Statement.{statement}
+use Rattle.machine.proofs.records.wake.Tie as tie
+
+enum-told : tie.Need-enum-told
+enum-told c = search needs
+
+woken-up-requires : tie.Need-woken-up-requires
+woken-up-requires c κs = search needs
+
+with-status-requires : tie.Need-with-status-requires
+with-status-requires c κs = search needs
+
+enum-told-2 : tie.Need-enum-told-2
+enum-told-2 c = search needs
+
+enum-told-3 : tie.Need-enum-told-3
+enum-told-3 c = search needs
+
+returns : tie.Need-returns
+returns c = let t = c .before .before in
+    let r = t .before .before .args .process in
+    (rw (c .before .woken-up .ensures) at (c .with-status .ensures)) ∙ sym (ap (waked r) (t .enum-told .given .1))
+
+returns-2 : tie.Need-returns-2
+returns-2 c = sym (ap (waked (c .before .before .args .process)) (c .enum-told2 .given .1))
+
+returns-3 : tie.Need-returns-3
+returns-3 c = sym (ap (waked (c .before .before .args .process)) (c .enum-told3 .given .1))
+
+pub wake-spec : {M : Type 1} → statement M
+wake-spec =
+    tie.close
+    (tie.spec
+    enum-told
+    woken-up-requires
+    with-status-requires
+    enum-told-2
+    enum-told-3
+    returns
+    returns-2
+    returns-3)

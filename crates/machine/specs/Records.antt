@@ -1,0 +1,68 @@
+-- The process record: document 01, "At any moment a process is down, idle, or in the midst of work with its stage and the word it
+-- read, the positions of its A1 and A4, and the answer it is to store. All that is volatile. Kept through a crash: the open row, if
+-- any; the stored answer or none; the checkpoint (0 or 1); the kept bit; how many rows it has begun."
+-- Assumes nothing.
+use Prim.Native.Nat.{ℕ, suc}
+use mathlib.Core.Path.{_≡_}
+use mathlib.Core.Bool.{Bool, true, false}
+use Rattle.machine.specs.declared.Process.{Process}
+use Rattle.machine.specs.declared.Stage.the-variants.{A1, V1}
+use Rattle.machine.specs.declared.Maybe.{Maybe}
+use Rattle.machine.specs.declared.Maybe.the-variants.{Nothing as None}
+use Rattle.machine.specs.declared.Opened.{Opened}
+use Rattle.machine.specs.declared.Opened.the-variants.{Nothing as Closed, Row as Open}
+use Rattle.machine.specs.declared.Status.{Status}
+use Rattle.machine.specs.declared.Status.the-variants.{Down, Idle, Busy}
+
+-- "At first all are idle with nothing stored and both bits 0."
+abbrev pub fresh : Process
+fresh = record { status = Idle; opened = Closed; stored = None; checkpoint = false; kept = false; begun = 0 }
+
+-- what stands past the end of an array of records: each field's first case
+abbrev pub nobody : Process
+nobody = record { status = Down; opened = Closed; stored = None; checkpoint = false; kept = false; begun = 0 }
+
+-- a record with another status, and with one kept thing changed as well
+abbrev pub with-status : Status → Process → Process
+with-status status r = record { status = status; opened = r .opened; stored = r .stored; checkpoint = r .checkpoint; kept = r .kept; begun = r .begun }
+
+abbrev pub with-kept : Status → Bool → Process → Process
+with-kept status bit r = record { status = status; opened = r .opened; stored = r .stored; checkpoint = r .checkpoint; kept = bit; begun = r .begun }
+
+abbrev pub with-checkpoint : Status → Process → Process
+with-checkpoint status r = record { status = status; opened = r .opened; stored = r .stored; checkpoint = true; kept = r .kept; begun = r .begun }
+
+abbrev pub with-stored : Status → Maybe → Process → Process
+with-stored status stored r = record { status = status; opened = r .opened; stored = stored; checkpoint = r .checkpoint; kept = r .kept; begun = r .begun }
+
+-- "the row is closed, the process idle"
+abbrev pub closed : Process → Process
+closed r = record { status = Idle; opened = Closed; stored = r .stored; checkpoint = r .checkpoint; kept = r .kept; begun = r .begun }
+
+-- "Start (idle, rows left): open the next row, clear the stored answer, checkpoint 0."
+abbrev pub started : ℕ → Process → Process
+started k r = record { status = Busy A1 0 0 0 None; opened = Open k; stored = None; checkpoint = false; kept = r .kept; begun = suc (r .begun) }
+
+-- "Crash: an awake process goes down."
+abbrev pub crashed : Process → Process
+crashed r = with-status Down r
+
+-- "Wake: a process that is down goes to V1 if a row is open, else idle."
+abbrev pub wokenUp : Opened → Status
+wokenUp Closed = Idle
+wokenUp (Open k) = Busy V1 0 0 0 None
+
+abbrev pub waked : Process → Status → Process
+waked r Down = with-status (wokenUp (r .opened)) r
+waked r Idle = r
+waked r (Busy stage word readAt triedAt answer) = r
+
+-- the number of the open row; and that a row is open in the midst of work
+abbrev pub rowOpen : Opened → ℕ
+rowOpen Closed = 0
+rowOpen (Open k) = k
+
+abbrev pub WorkOpen : Status → Opened → Type 0
+WorkOpen Down opened = Unit
+WorkOpen Idle opened = Unit
+WorkOpen (Busy stage word readAt triedAt answer) opened = (k : ℕ) × (opened ≡ Open k)

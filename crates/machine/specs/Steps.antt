@@ -1,0 +1,98 @@
+-- One step of an awake process: document 01, "Steps of an awake process, one per byte". `decide` has a line for each stage. It looks
+-- at the record, the row, the word as it stands now and the position, and at nothing else; what it comes to is carried out in Machine.antt.
+-- Assumes nothing.
+use Prim.Native.Nat.{ℕ, _+_}
+use mathlib.Core.Path.{_≡_, ap}
+use mathlib.Core.Bool.{Bool, true, false, cond, not}
+use lib.Dec.{eqb, ltb}
+use Rattle.runfile.specs.declared.Row.{Row}
+use Rattle.runfile.specs.Operations.{reads, newOf}
+use Rattle.word.specs.Word.{value, bit, swapped}
+use Rattle.rows.specs.declared.Entry.{Entry}
+use Rattle.rows.specs.Entries.{Said}
+use Rattle.machine.specs.declared.Process.{Process}
+use Rattle.machine.specs.declared.Stage.{Stage}
+use Rattle.machine.specs.declared.Stage.the-variants.{A1, A2, A3, A4, A5, A6, V1, V2, V3, V4, V5, V6}
+use Rattle.machine.specs.declared.Answer.the-variants.{False, True, Value}
+use Rattle.machine.specs.declared.Maybe.{Maybe}
+use Rattle.machine.specs.declared.Maybe.the-variants.{Nothing as None, Is}
+use Rattle.machine.specs.declared.Opened.{Opened}
+use Rattle.machine.specs.declared.Opened.the-variants.{Nothing as Closed, Row as Open}
+use Rattle.machine.specs.declared.Status.{Status}
+use Rattle.machine.specs.declared.Status.the-variants.{Down, Idle, Busy}
+use Rattle.machine.specs.declared.Turn.{Turn}
+use Rattle.machine.specs.declared.Turn.the-variants.{Still, Quiet, Swaps, Logs, Loses, Replies}
+use Rattle.machine.specs.Records.{with-status, with-kept, with-checkpoint, with-stored, closed, started}
+
+-- "Verdicts: 0 false, 1 true, 2 fail (answers only), 3 value read. The value is 0 unless the verdict is 3." No answer is fail
+unfoldable pub spoken : Maybe → Said
+spoken None = record { verdict = 2; value = 0 }
+spoken (Is False) = record { verdict = 0; value = 0 }
+spoken (Is True) = record { verdict = 1; value = 0 }
+spoken (Is (Value v)) = record { verdict = 3; value = v }
+
+-- "rows of five numbers: position, process, row number, verdict, value"
+abbrev pub entry : ℕ → ℕ → ℕ → Maybe → Entry
+entry position process row said = record { position = position; process = process; row = row; verdict = spoken said .verdict; value = spoken said .value }
+
+-- "A1: read the word. A read row, or a value other than old (answer false), goes to A5; otherwise A2."
+abbrev pub afterRead : Row → ℕ → ℕ → Status
+afterRead row word t =
+    cond (reads row)
+    (Busy A5 word t 0 (Is (Value (value word))))
+    (cond (eqb (value word) (row .old)) (Busy A2 word t 0 None) (Busy A5 word t 0 (Is False)))
+
+-- "A4: if the whole word, bits included, is still as read, put in new and turn the own flip bit: true. Otherwise false. Then A5."
+unfoldable pub tried : ℕ → ℕ → Row → ℕ → Process → ℕ → ℕ → Turn
+tried p t row now r seen readAt =
+    cond (eqb now seen)
+    (Swaps (with-status (Busy A5 seen readAt t (Is True)) r) (swapped p (newOf row (value seen)) seen))
+    (Quiet (with-status (Busy A5 seen readAt t (Is False)) r))
+
+-- "A5: store the answer." "A swap that succeeds enters the log at A4 with its position. Any other answer enters at A5: a read, or a
+-- value that was not old, with the position of its A1; a lost swap (false although the value read was old) with the position of the
+-- first successful swap on its word after its A1."
+unfoldable pub storing : Row → Process → ℕ → ℕ → ℕ → Maybe → Turn
+storing row next seen readAt triedAt None = Quiet next
+storing row next seen readAt triedAt (Is True) = Quiet next
+storing row next seen readAt triedAt (Is (Value v)) = Logs next readAt (Value v)
+storing row next seen readAt triedAt (Is False) = cond (eqb (value seen) (row .old)) (Loses next readAt triedAt) (Logs next readAt False)
+
+-- "V1: an answer stored goes to V5, else V2."
+abbrev pub recovered : Maybe → Stage
+recovered (Is a) = V5
+recovered None = V2
+
+abbrev pub sameBit : Bool → Bool → Bool
+sameBit true b = b
+sameBit false b = not b
+
+-- process p at position t, in the midst of work on a row whose word is `now`
+unfoldable pub decide : Row → ℕ → ℕ → ℕ → Process → Stage → ℕ → ℕ → ℕ → Maybe → Turn
+decide row p t now r A1 seen readAt triedAt answer = Quiet (with-status (afterRead row now t) r)
+decide row p t now r A2 seen readAt triedAt answer = Quiet (with-kept (Busy A3 seen readAt triedAt answer) (not (bit p seen)) r)
+decide row p t now r A3 seen readAt triedAt answer = Quiet (with-checkpoint (Busy A4 seen readAt triedAt answer) r)
+decide row p t now r A4 seen readAt triedAt answer = tried p t row now r seen readAt
+decide row p t now r A5 seen readAt triedAt answer = storing row (with-stored (Busy A6 seen readAt triedAt answer) answer r) seen readAt triedAt answer
+decide row p t now r A6 seen readAt triedAt answer = Replies (closed r) answer
+decide row p t now r V1 seen readAt triedAt answer = Quiet (with-status (Busy (recovered (r .stored)) seen readAt triedAt answer) r)
+decide row p t now r V2 seen readAt triedAt answer = Quiet (with-status (Busy (cond (r .checkpoint) V3 V6) seen readAt triedAt answer) r)
+decide row p t now r V3 seen readAt triedAt answer = Quiet (with-status (Busy (cond (sameBit (bit p now) (r .kept)) V4 V6) now readAt triedAt answer) r)
+decide row p t now r V4 seen readAt triedAt answer = Quiet (with-stored (Busy V5 seen readAt triedAt answer) (Is True) r)
+decide row p t now r V5 seen readAt triedAt answer = Replies (closed r) (r .stored)
+decide row p t now r V6 seen readAt triedAt answer = Replies (closed r) None
+
+-- "A step of a process that is down, a step of an idle one with no rows left .. change nothing". A process in the midst of work has a
+-- row open: that is `row`, and `now` is its word. The process has `count` rows, the first of which is row number `first`
+abbrev pub atWork : Row → (p t now : ℕ) → Process → Opened → Stage → (seen readAt triedAt : ℕ) → Maybe → Turn
+atWork row p t now r Closed stage seen readAt triedAt answer = Still
+atWork row p t now r (Open k) stage seen readAt triedAt answer = decide row p t now r stage seen readAt triedAt answer
+
+unfoldable pub stepTurn : Row → (p t now first count : ℕ) → Process → Status → Turn
+stepTurn row p t now first count r Down = Still
+stepTurn row p t now first count r Idle = cond (ltb (r .begun) count) (Quiet (started (first + r .begun) r)) Still
+stepTurn row p t now first count r (Busy stage seen readAt triedAt answer) = atWork row p t now r (r .opened) stage seen readAt triedAt answer
+
+pub working : (row : Row) (p t now : ℕ) (r : Process) (opened : Opened) (k : ℕ) (stage : Stage) (seen readAt triedAt : ℕ) (answer : Maybe) → opened ≡ Open k
+    → atWork row p t now r opened stage seen readAt triedAt answer ≡ decide row p t now r stage seen readAt triedAt answer
+working row p t now r opened k stage seen readAt triedAt answer e = ap (λ o. atWork row p t now r o stage seen readAt triedAt answer) e

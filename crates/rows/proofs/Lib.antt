@@ -1,0 +1,4 @@
+pub mod Place
+pub mod Shift
+pub mod First
+pub mod Insert

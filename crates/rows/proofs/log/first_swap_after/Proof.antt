@@ -1,0 +1,78 @@
+-- `first_swap_after` meets its contract. Invariant: what the search finds from row i on is what the whole search finds. Measure: the rows left.
+-- Assumes nothing.
+use Prim.Native.Nat.{ℕ, _≤_, _-_}
+use mathlib.Core.Path.{_≡_, refl}
+use mathlib.Core.List.{List}
+use native.Mathlib.Omega.{arith}
+use lib.ListN.{drop}
+use borrow.Author.Needs.{needs}
+use Rattle.runfile.specs.declared.Row.{Row}
+use Rattle.runfile.specs.Operations.{rowsFrom}
+use Rattle.rows.specs.Log.{firstSwap}
+use Rattle.rows.specs.Buffers.{rowsOf}
+use Rattle.rows.proofs.First.{hit, miss, over}
+use Rattle.rows.proofs.log.first_swap_after.Statement.{statement}
+use Rattle.rows.proofs.log.first_swap_after.Tie as tie
+
+record Searching (operations : List Row) (log : List ℕ) (rows after word none i : ℕ) : Type 0 where
+  within : i ≤ rows
+  kept : firstSwap operations word after none (drop i (rowsOf rows log)) ≡ firstSwap operations word after none (rowsOf rows log)
+
+abbrev Inv-loop : tie.InvT-loop
+Inv-loop table operations log rows after word none i₀ i = Searching (rowsFrom table 0 operations) log rows after word none i
+
+abbrev μ-loop : tie.MeasureT-loop
+μ-loop table operations log rows after word none i₀ i = rows - i
+
+loop-holds : tie.Need-loop-holds Inv-loop μ-loop
+loop-holds c = record { within = search needs; kept = refl }
+
+is-swap-after-requires : tie.Need-is-swap-after-requires Inv-loop μ-loop
+is-swap-after-requires c κs = search needs
+
+mul-result : tie.Need-mul-result Inv-loop μ-loop
+mul-result c = search needs
+
+mul-result-2 : tie.Need-mul-result-2 Inv-loop μ-loop
+mul-result-2 c = search needs
+
+shared-slice-read-result : tie.Need-shared-slice-read-result Inv-loop μ-loop
+shared-slice-read-result c = search needs
+
+returns : tie.Need-returns Inv-loop μ-loop
+returns c = let t = c .before in
+    let m = t .before in
+    let l = m .before .before in
+    hit _ _ _ _ _ _ _ _ (l .loop .inv .kept) _ (m .before .loop-test .taken) (m .is-swap-after .ensures) (t .if1 .taken)
+
+add-i : tie.Need-add-i Inv-loop μ-loop
+add-i c = search needs
+
+loop-less : tie.Need-loop-less Inv-loop μ-loop
+loop-less c = search needs
+
+loop-again : tie.Need-loop-again Inv-loop μ-loop
+loop-again c = let m = c .before in
+    let l = m .before .before in
+    record { within = omega arith; kept = miss _ _ _ _ _ _ _ _ (l .loop .inv .kept) _ (m .before .loop-test .taken) (m .is-swap-after .ensures) (c .if1 .left) }
+
+returns-2 : tie.Need-returns-2 Inv-loop μ-loop
+returns-2 c = let l = c .before in
+    over _ _ _ _ _ _ _ _ (l .loop .inv .kept) (c .loop-test .left)
+
+pub first-swap-after-spec : {M : Type 1} → statement M
+first-swap-after-spec =
+    tie.close
+    (tie.spec
+    Inv-loop
+    μ-loop
+    loop-holds
+    is-swap-after-requires
+    mul-result
+    mul-result-2
+    shared-slice-read-result
+    returns
+    add-i
+    loop-less
+    loop-again
+    returns-2)

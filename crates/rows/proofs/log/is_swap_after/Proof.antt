@@ -1,0 +1,114 @@
+-- `is_swap_after` meets its contract: the tests of the row are those of `isSwap`, in its order, and the table's byte is the word that the row names.
+-- Assumes nothing.
+use Prim.Native.Nat.{ℕ, _+_, _*_, _≤_, _<_}
+use mathlib.Core.Path.{_≡_}
+use mathlib.Core.Bool.{Bool, false}
+use mathlib.Core.List.{List}
+use native.Mathlib.Omega.{arith}
+use native.Mathlib.Nat.{zero-add}
+use lib.Dec.{eqb}
+use lib.ListN.{getD}
+use borrow.Author.Needs.{needs}
+use borrow.Author.Tests.{le-ltb, lt-ltb, ne-eqb}
+use Rattle.runfile.specs.Operations.{rowsFrom}
+use Rattle.runfile.specs.OperationLaws.{names-there, names-past}
+use Rattle.rows.specs.Entries.{isTrue}
+use Rattle.rows.specs.Log.{isSwap}
+use Rattle.rows.specs.Buffers.{entryAt}
+use Rattle.rows.proofs.log.is_swap_after.Statement.{statement}
+use Rattle.rows.proofs.log.is_swap_after.Tie as tie
+
+module _ (table log : List ℕ) (n w a k : ℕ) where
+  abbrev found : Bool
+  found = isSwap (rowsFrom table 0 n) w a (entryAt log k)
+
+  lost : (getD log (k + 3) 0 ≡ 1 → ⊥) → false ≡ found
+  unfolding isSwap isTrue entryAt
+  lost h = rw (ne-eqb (getD log (k + 3) 0) 1 h)
+
+  early : getD log (k + 3) 0 ≡ 1 → getD log k 0 ≤ a → false ≡ found
+  unfolding isSwap isTrue entryAt
+  early won h = rw (won, le-ltb a (getD log k 0) h)
+
+  -- of a successful swap that is late enough the row that it names decides
+  module _ (won : getD log (k + 3) 0 ≡ 1) (later : a < getD log k 0) where
+    past : n ≤ getD log (k + 2) 0 → false ≡ found
+    unfolding isSwap isTrue entryAt
+    past h = rw (won, lt-ltb a (getD log k 0) later, names-past table 0 n (getD log (k + 2) 0) w h)
+
+    there : getD log (k + 2) 0 < n → eqb (getD table (getD log (k + 2) 0 * 8 + 2) 0) w ≡ found
+    unfolding isSwap isTrue entryAt
+    there h = rw (won, lt-ltb a (getD log k 0) later, names-there table 0 n (getD log (k + 2) 0) w h, zero-add (getD log (k + 2) 0 * 8))
+
+mul-at : tie.Need-mul-at
+mul-at c = search needs
+
+add-if1 : tie.Need-add-if1
+add-if1 c = search needs
+
+mul-if1 : tie.Need-mul-if1
+mul-if1 c = search needs
+
+shared-slice-read-if1 : tie.Need-shared-slice-read-if1
+shared-slice-read-if1 c = search needs
+
+returns : tie.Need-returns
+returns c = lost _ _ _ _ _ _ (c .if1 .taken)
+
+mul-if2 : tie.Need-mul-if2
+mul-if2 c = search needs
+
+shared-slice-read-if2 : tie.Need-shared-slice-read-if2
+shared-slice-read-if2 c = search needs
+
+returns-2 : tie.Need-returns-2
+returns-2 c = early _ _ _ _ _ _ (c .before .before .if1 .left) (omega arith)
+
+add-row : tie.Need-add-row
+add-row c = search needs
+
+mul-row : tie.Need-mul-row
+mul-row c = search needs
+
+shared-slice-read-row : tie.Need-shared-slice-read-row
+shared-slice-read-row c = search needs
+
+cast-row : tie.Need-cast-row
+cast-row c = omega (arith, c .shared-slice-known3 .given (c .before .before .before .before .before .args .i * 5 + 2))
+
+returns-3 : tie.Need-returns-3
+returns-3 c = past _ _ _ _ _ _ (c .before .before .before .before .if1 .left) (omega (arith, c .before .before .if2 .left)) (c .if3 .taken)
+
+mul-result : tie.Need-mul-result
+mul-result c = search needs
+
+add-result : tie.Need-add-result
+add-result c = search needs
+
+shared-slice-read-result : tie.Need-shared-slice-read-result
+shared-slice-read-result c = search needs
+
+returns-4 : tie.Need-returns-4
+returns-4 c = let d = c .before in there _ _ _ _ _ _ (d .before .before .before .before .if1 .left) (omega (arith, d .before .before .if2 .left)) (d .if3 .left)
+
+pub is-swap-after-spec : {M : Type 1} → statement M
+is-swap-after-spec =
+    tie.close
+    (tie.spec
+    mul-at
+    add-if1
+    mul-if1
+    shared-slice-read-if1
+    returns
+    mul-if2
+    shared-slice-read-if2
+    returns-2
+    add-row
+    mul-row
+    shared-slice-read-row
+    cast-row
+    returns-3
+    mul-result
+    add-result
+    shared-slice-read-result
+    returns-4)

@@ -1,0 +1,89 @@
+-- `write_row` meets its contract: five stores in a row put the five numbers there (`sets-eq`), and the length stays.
+-- Assumes nothing.
+use Prim.Native.Nat.{ℕ, _+_, _≤_}
+use mathlib.Core.Path.{_≡_, _∙_}
+use mathlib.Core.List.{List, append-assoc}
+use native.Mathlib.Numerals.{unary-clauses}
+use native.Mathlib.Omega.{arith}
+use lib.ListN.{length, take, drop, set, length-set}
+use lib.Seq.{sets-eq}
+use denote.Ref.{now}
+use borrow.Author.Needs.{needs}
+use Rattle.rows.specs.declared.Entry.{Entry}
+use Rattle.rows.specs.Buffers.{five, placed}
+use Rattle.rows.proofs.write_row.Statement.{statement}
+use Rattle.rows.proofs.write_row.Tie as tie
+
+five-placed : (xs : List ℕ) (at : ℕ) (e : Entry) → at + 5 ≤ length xs
+    → set (set (set (set (set xs at (e .position)) (at + 1) (e .process)) (at + 2) (e .row)) (at + 3) (e .verdict)) (at + 4) (e .value) ≡ placed at (five e) xs
+unfolding placed five
+five-placed xs at e h = simp unary-clauses (simp unary-clauses at (sets-eq (five e) xs at h ∙ append-assoc (take at xs) (five e) (drop (at + 5) xs)))
+
+mul-buffer : tie.Need-mul-buffer
+mul-buffer c = search needs
+
+slice-write-buffer : tie.Need-slice-write-buffer
+slice-write-buffer c = search needs
+
+add-buffer : tie.Need-add-buffer
+add-buffer c = search needs
+
+mul-buffer-2 : tie.Need-mul-buffer-2
+mul-buffer-2 c = search needs
+
+slice-write-buffer-2 : tie.Need-slice-write-buffer-2
+slice-write-buffer-2 c = simp length-set (omega arith)
+
+add-buffer-2 : tie.Need-add-buffer-2
+add-buffer-2 c = search needs
+
+mul-buffer-3 : tie.Need-mul-buffer-3
+mul-buffer-3 c = search needs
+
+slice-write-buffer-3 : tie.Need-slice-write-buffer-3
+slice-write-buffer-3 c = simp length-set (omega arith)
+
+add-buffer-3 : tie.Need-add-buffer-3
+add-buffer-3 c = search needs
+
+mul-buffer-4 : tie.Need-mul-buffer-4
+mul-buffer-4 c = search needs
+
+slice-write-buffer-4 : tie.Need-slice-write-buffer-4
+slice-write-buffer-4 c = simp length-set (omega arith)
+
+add-buffer-4 : tie.Need-add-buffer-4
+add-buffer-4 c = search needs
+
+mul-buffer-5 : tie.Need-mul-buffer-5
+mul-buffer-5 c = search needs
+
+slice-write-buffer-5 : tie.Need-slice-write-buffer-5
+slice-write-buffer-5 c = simp length-set (omega arith)
+
+same-length : tie.Need-same-length
+same-length c = search needs
+
+returns : tie.Need-returns
+returns c = five-placed (now (c .args .buffer)) (c .args .at) (c .args .entry) (c .pre)
+
+pub write-row-spec : {M : Type 1} → statement M
+write-row-spec =
+    tie.close
+    (tie.spec
+    mul-buffer
+    slice-write-buffer
+    add-buffer
+    mul-buffer-2
+    slice-write-buffer-2
+    add-buffer-2
+    mul-buffer-3
+    slice-write-buffer-3
+    add-buffer-3
+    mul-buffer-4
+    slice-write-buffer-4
+    add-buffer-4
+    mul-buffer-5
+    slice-write-buffer-5
+    same-length
+    returns)

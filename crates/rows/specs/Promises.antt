@@ -1,0 +1,41 @@
+-- The contracts of the public functions, and that each leaves no second outcome: the result, or every number of the lent buffer, is determined.
+-- A contract of one equation is that equation under a name, so that a caller rewrites with it as it stands. Buffers that are only read are not
+-- named after the call: nothing can change them.
+-- Assumes nothing.
+use Prim.Native.Nat.{ℕ, _≤_}
+use mathlib.Core.Path.{_≡_, sym, _∙_}
+use mathlib.Core.List.{List, [], _∷_, _++_}
+use Rattle.runfile.specs.Operations.{rowsFrom}
+use Rattle.rows.specs.declared.Entry.{Entry}
+use Rattle.rows.specs.Log.{place, insert, firstSwap}
+use Rattle.rows.specs.Buffers.{flat, rowsOf, infront}
+
+-- `place_of(log, rows, position)`; that the place is within the rows follows, and is there for the caller's arithmetic
+pub record Places (log : List ℕ) (rows position r : ℕ) : Type 0 where
+  pub result : r ≡ place position (rowsOf rows log)
+  pub within : r ≤ rows
+
+-- `first_swap_after(table, operations, log, rows, after, word, none)`
+abbrev pub FirstSwapped : (table : List ℕ) (operations : ℕ) (log : List ℕ) (rows after word none r : ℕ) → Type 0
+FirstSwapped table operations log rows after word none r = r ≡ firstSwap (rowsFrom table 0 operations) word after none (rowsOf rows log)
+
+-- `insert_row(log, rows, entry)`: the log before, and after
+abbrev pub Inserted : (log : List ℕ) (rows : ℕ) (e : Entry) (log′ : List ℕ) → Type 0
+Inserted log rows e log′ = log′ ≡ infront (flat (insert e (rowsOf rows log))) log
+
+-- `add_answer(answers, rows, entry)`
+abbrev pub Added : (answers : List ℕ) (rows : ℕ) (e : Entry) (answers′ : List ℕ) → Type 0
+Added answers rows e answers′ = answers′ ≡ infront (flat (rowsOf rows answers ++ (e ∷ []))) answers
+
+pub places-one : (log : List ℕ) (rows position r q : ℕ) → Places log rows position r → Places log rows position q → r ≡ q
+places-one log rows position r q a b = a .result ∙ sym (b .result)
+
+module _ (table : List ℕ) (operations : ℕ) (log : List ℕ) (rows after word none r q : ℕ) where
+  pub first-swapped-one : FirstSwapped table operations log rows after word none r → FirstSwapped table operations log rows after word none q → r ≡ q
+  first-swapped-one a b = a ∙ sym b
+
+pub inserted-one : (log : List ℕ) (rows : ℕ) (e : Entry) (x y : List ℕ) → Inserted log rows e x → Inserted log rows e y → x ≡ y
+inserted-one log rows e x y a b = a ∙ sym b
+
+pub added-one : (answers : List ℕ) (rows : ℕ) (e : Entry) (x y : List ℕ) → Added answers rows e x → Added answers rows e y → x ≡ y
+added-one answers rows e x y a b = a ∙ sym b

@@ -1,0 +1,105 @@
+// The log, in the order in which operations took effect: where a new row goes, how it is put there, and the
+// successful swap that a lost one looks for.
+use super::Entry;
+use super::write_row;
+ghost use Prim.Native.Nat.{_+_, _*_, _≤_};
+ghost use mathlib.Core.Path.{_≡_};
+ghost use lib.ListN.{length};
+ghost use Rattle.runfile.specs.Operations.{rowsFrom};
+ghost use Rattle.rows.specs.Log.{isSwap};
+ghost use Rattle.rows.specs.Buffers.{entryAt, shifted};
+ghost use Rattle.rows.specs.Promises.{Places, FirstSwapped, Inserted};
+
+// The place of a new row among the first `rows` rows: one past the last of equal or smaller position, 0 if
+// there is none. The log need not be in order, so every row is looked at.
+pub fn place_of(log: &[u32], rows: usize, position: u32) -> usize
+    requires { ⌜ rows * 5 ≤ length (now log) ⌝ }
+    ensures { λ r. ⌜ Places (now (log .entry)) rows position r ⌝ }
+{
+    let mut place = 0;
+    let mut i = 0;
+    while i < rows {
+        if log[i * 5] <= position {
+            place = i + 1;
+        }
+        i += 1;
+    }
+    place
+}
+
+// Moves the first `count` numbers of a part of the log up by one row, from the last to the first, so that none
+// is overwritten before it is moved. The first five numbers stay until a row is written over them.
+fn shift_rows(part: &mut [u32], count: usize)
+    requires { ⌜ count + 5 ≤ length (now part) ⌝ }
+    ensures { λ _. ⌜ now (part .exit) ≡ shifted count (now (part .entry)) ⌝ }
+{
+    let mut i = count;
+    while 0 < i {
+        i -= 1;
+        part[i + 5] = part[i];
+    }
+}
+
+// Puts a row into the log, directly behind the last row of equal or smaller position. Only the part from that
+// place on is lent to be moved.
+pub fn insert_row(log: &mut [u32], rows: usize, entry: Entry)
+    requires { ⌜ rows * 5 + 5 ≤ length (now log) ⌝ }
+    ensures { λ _. ⌜ Inserted (now (log .entry)) rows entry (now (log .exit)) ⌝ }
+{
+    let place = place_of(log, rows, entry.position);
+    let at = place * 5;
+    let count = rows * 5 - at;
+    shift_rows(&mut log[at..], count);
+    write_row(log, at, entry);
+}
+
+// Whether row i of the log is a successful swap on a word after a position. The table is the part of the file
+// with its rows, 8 bytes each, of which the third names the word; a row number past it names no row.
+fn is_swap_after(
+    table: &[u8],
+    operations: usize,
+    log: &[u32],
+    i: usize,
+    after: u32,
+    word: u8,
+) -> bool
+    requires { ⌜ (operations * 8 ≤ length (now table)) × (i * 5 + 5 ≤ length (now log)) ⌝ }
+    ensures { λ r. ⌜ r ≡ isSwap (rowsFrom (now (table .entry)) 0 operations) word after (entryAt (now (log .entry)) (i * 5)) ⌝ }
+{
+    let at = i * 5;
+    if log[at + 3] != 1 {
+        return false;
+    }
+    if log[at] <= after {
+        return false;
+    }
+    let row = log[at + 2] as usize;
+    if row >= operations {
+        return false;
+    }
+    table[row * 8 + 2] == word
+}
+
+// The position of the front-most of the first `rows` rows that is a successful swap on a word after a position;
+// `none` where there is none.
+pub fn first_swap_after(
+    table: &[u8],
+    operations: usize,
+    log: &[u32],
+    rows: usize,
+    after: u32,
+    word: u8,
+    none: u32,
+) -> u32
+    requires { ⌜ (operations * 8 ≤ length (now table)) × (rows * 5 ≤ length (now log)) ⌝ }
+    ensures { λ r. ⌜ FirstSwapped (now (table .entry)) operations (now (log .entry)) rows after word none r ⌝ }
+{
+    let mut i = 0;
+    while i < rows {
+        if is_swap_after(table, operations, log, i, after, word) {
+            return log[i * 5];
+        }
+        i += 1;
+    }
+    none
+}

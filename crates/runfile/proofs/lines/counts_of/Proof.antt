@@ -1,0 +1,87 @@
+-- `counts_of` meets its contract. Invariant: the table counts the first k rows. Measure: the rows left.
+-- Assumes nothing.
+use Rattle.runfile.proofs.Tables.{zeros, few, counted-next}
+use denote.Ref.{now}
+use native.Mathlib.Omega.{arith}
+use mathlib.Core.Path.{_≡_, refl}
+use Rattle.runfile.specs.Lines.{Counted}
+use Rattle.runfile.specs.Operations.{rowsFrom, count}
+use Prim.Native.Nat.{_≤_, _<_, _-_}
+use borrow.Author.Needs.{needs}
+use Rattle.runfile.proofs.lines.counts_of.Statement.{statement}
+use Rattle.runfile.proofs.lines.counts_of.Tie as tie
+
+abbrev Inv-loop : tie.InvT-loop
+Inv-loop table rows counts₀ k₀ counts k = (k ≤ rows) × Counted (rowsFrom table 0 k) counts
+
+abbrev μ-loop : tie.MeasureT-loop
+μ-loop table rows counts₀ k₀ counts k = rows - k
+
+-- a row's process is an index of the table
+small : (c : tie.After-index8 Inv-loop μ-loop) → c .index8 .result < 16
+small c = let l = c .before .before .before in rw (c .index8 .ensures .0) (l .before .before .pre .processes (l .loop .k) (c .before .before .loop-test .taken))
+
+loop-holds : tie.Need-loop-holds Inv-loop μ-loop
+unfolding count rowsFrom
+loop-holds c = (search needs, record { size = refl; each = λ p l. zeros 16 p })
+
+mul-index8 : tie.Need-mul-index8 Inv-loop μ-loop
+mul-index8 c = search needs
+
+shared-slice-read-index8 : tie.Need-shared-slice-read-index8 Inv-loop μ-loop
+shared-slice-read-index8 c = search needs
+
+index8-requires : tie.Need-index8-requires Inv-loop μ-loop
+index8-requires c κs = search needs
+
+mul-counts : tie.Need-mul-counts Inv-loop μ-loop
+mul-counts c = search needs
+
+array-read-counts : tie.Need-array-read-counts Inv-loop μ-loop
+array-read-counts c = small c
+
+add-counts : tie.Need-add-counts Inv-loop μ-loop
+add-counts c = let l = c .before .before .before in
+    let f = few (now (l .before .before .args .table)) (l .loop .k) (l .loop .counts) (l .loop .inv .1) (c .index8 .result) (c .index8 .ensures .0) (small c) in
+    omega arith
+
+mul-counts-2 : tie.Need-mul-counts-2 Inv-loop μ-loop
+mul-counts-2 c = search needs
+
+array-write-counts : tie.Need-array-write-counts Inv-loop μ-loop
+array-write-counts c = small c
+
+add-k : tie.Need-add-k Inv-loop μ-loop
+add-k c = search needs
+
+loop-less : tie.Need-loop-less Inv-loop μ-loop
+loop-less c = search needs
+
+loop-again : tie.Need-loop-again Inv-loop μ-loop
+loop-again c = let l = c .before .before .before in
+    (search needs, counted-next (now (l .before .before .args .table)) (l .loop .k) (l .loop .counts) (l .loop .inv .1) (c .index8 .result) (c .index8 .ensures .0) (small c))
+
+returns : tie.Need-returns Inv-loop μ-loop
+returns c = let l = c .before in
+    let e : l .loop .k ≡ l .before .before .args .rows = (let a = l .loop .inv .0 in omega arith) in
+    rw e at (l .loop .inv .1)
+
+pub counts-of-spec : {M : Type 1} → statement M
+counts-of-spec =
+    tie.close
+    (tie.spec
+    Inv-loop
+    μ-loop
+    loop-holds
+    mul-index8
+    shared-slice-read-index8
+    index8-requires
+    mul-counts
+    array-read-counts
+    add-counts
+    mul-counts-2
+    array-write-counts
+    add-k
+    loop-less
+    loop-again
+    returns)

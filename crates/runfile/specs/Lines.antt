@@ -1,0 +1,77 @@
+-- How the rows fall to the processes, as tables of sixteen numbers: "A process's rows are carried out in file order."
+-- Assumes nothing.
+use Prim.Native.Nat.{ℕ, zero, suc, _+_, _*_, _≤_, _<_}
+use mathlib.Core.Path.{_≡_, refl, sym}
+use mathlib.Core.Bool.{Bool, true, false, cond}
+use mathlib.Core.List.{List, [], _∷_}
+use native.Mathlib.Omega.{arith}
+use lib.Dec.{eqb, ltb}
+use lib.ListN.{getD, length}
+use borrow.Author.Tests.{ltb-true, ltb-false, eqb-true, eqb-false, le-ltb}
+use Rattle.runfile.specs.declared.Row.{Row}
+use Rattle.runfile.specs.Layout.{byteAt}
+use Rattle.runfile.specs.Operations.{first, count}
+
+-- a table of n rows, each of a process below sixteen
+pub record Lined (table : List ℕ) (n : ℕ) : Type 0 where
+  pub whole : n * 8 ≤ length table
+  pub few : n ≤ 512
+  pub processes : (k : ℕ) → k < n → byteAt table (k * 8) < 16
+
+-- entry p of the table is the number of p's rows
+pub record Counted (rows : List Row) (counts : List ℕ) : Type 0 where
+  pub size : length counts ≡ 16
+  pub each : (p : ℕ) → p < 16 → getD counts p 0 ≡ count rows p
+
+-- the sum of the first p entries
+unfoldable pub sumTo : List ℕ → ℕ → ℕ
+sumTo counts zero = 0
+sumTo counts (suc p) = sumTo counts p + getD counts p 0
+
+-- entry p of the table is the sum of the counts before p
+pub record Summed (counts firsts : List ℕ) : Type 0 where
+  pub size : length firsts ≡ 16
+  pub each : (p : ℕ) → p < 16 → getD firsts p 0 ≡ sumTo counts p
+
+-- a row counts at most once: below p, of p, or later
+pub first-suc : (rows : List Row) (p : ℕ) → first rows (suc p) ≡ first rows p + count rows p
+unfolding first count
+first-suc [] p = refl
+first-suc (r ∷ rows) p = go (ltb (r .process) (suc p)) refl (ltb (r .process) p) refl (eqb (r .process) p) refl (first-suc rows p)
+  where
+    go : (a : Bool) → ltb (r .process) (suc p) ≡ a → (b : Bool) → ltb (r .process) p ≡ b → (c : Bool) → eqb (r .process) p ≡ c → first rows (suc p) ≡ first rows p + count rows p
+        → cond a (suc (first rows (suc p))) (first rows (suc p)) ≡ cond b (suc (first rows p)) (first rows p) + cond c (suc (count rows p)) (count rows p)
+    go true x true y true z ih = absurd (let g = ltb-true (r .process) p y in let e = eqb-true (r .process) p z in omega arith)
+    go true x true y false z ih = omega arith
+    go true x false y true z ih = omega arith
+    go true x false y false z ih = absurd (let g = ltb-true (r .process) (suc p) x in let k = ltb-false (r .process) p y in eqb-false (r .process) p z (omega arith))
+    go false x true y c z ih = absurd (let g = ltb-false (r .process) (suc p) x in let k = ltb-true (r .process) p y in omega arith)
+    go false x false y true z ih = absurd (let g = ltb-false (r .process) (suc p) x in let e = eqb-true (r .process) p z in omega arith)
+    go false x false y false z ih = ih
+
+pub first-fits : (rows : List Row) (p : ℕ) → first rows p ≤ length rows
+unfolding first
+first-fits [] p = omega arith
+first-fits (r ∷ rows) p = go (ltb (r .process) p) (first-fits rows p)
+  where
+    go : (b : Bool) → first rows p ≤ length rows → cond b (suc (first rows p)) (first rows p) ≤ suc (length rows)
+    go true h = omega arith
+    go false h = omega arith
+
+-- a process's rows are in the file
+pub last-fits : (rows : List Row) (p : ℕ) → first rows p + count rows p ≤ length rows
+last-fits rows p = let e = first-suc rows p in let h = first-fits rows (suc p) in omega arith
+
+pub count-fits : (rows : List Row) (p : ℕ) → count rows p ≤ length rows
+count-fits rows p = let h = last-fits rows p in omega arith
+
+none-below : (rows : List Row) → first rows 0 ≡ 0
+unfolding first
+none-below [] = refl
+none-below (r ∷ rows) = rw (le-ltb (r .process) 0 (omega arith)) (none-below rows)
+
+-- the two tables together
+pub sums-are : (rows : List Row) (counts : List ℕ) → Counted rows counts → (p : ℕ) → p ≤ 16 → sumTo counts p ≡ first rows p
+unfolding sumTo
+sums-are rows counts c zero h = sym (none-below rows)
+sums-are rows counts c (suc p) h = rw (sums-are rows counts c p (omega arith), c .each p (omega arith), first-suc rows p)

@@ -1,0 +1,55 @@
+-- The operation rows of a file as a list, and what a row asks: document 01, "The run file".
+-- Assumes nothing.
+use Prim.Native.Nat.{ℕ, zero, suc, _+_}
+use mathlib.Core.Bool.{Bool, false, cond}
+use mathlib.Core.List.{List, [], _∷_, _++_}
+use lib.Dec.{eqb, ltb}
+use lib.ListN.{getD}
+use Rattle.runfile.specs.declared.Header.{Header}
+use Rattle.runfile.specs.declared.Row.{Row}
+use Rattle.runfile.specs.Layout.{rowSize, rowsStart, rowAt, wordIn}
+
+-- the first n start words
+abbrev pub wordsFrom : List ℕ → ℕ → List ℕ
+wordsFrom f zero = []
+wordsFrom f (suc n) = wordsFrom f n ++ (wordIn f n ∷ [])
+
+unfoldable pub wordsOf : Header → List ℕ → List ℕ
+wordsOf h f = wordsFrom f (h .words)
+
+-- the n rows that stand from a place on
+unfoldable pub rowsFrom : List ℕ → ℕ → ℕ → List Row
+rowsFrom f start zero = []
+rowsFrom f start (suc n) = rowAt f start ∷ rowsFrom f (start + rowSize) n
+
+unfoldable pub tableOf : Header → List ℕ → List Row
+tableOf h f = rowsFrom f (rowsStart h) (h .rows)
+
+-- "Row numbers count from 0 over the whole file." Row k, or a row of zeros where there is none
+abbrev pub blank : Row
+blank = record { process = 0; kind = 0; word = 0; old = 0; new = 0 }
+
+unfoldable pub rowNumbered : List Row → ℕ → Row
+rowNumbered rows k = getD rows k blank
+
+-- how many rows stand for processes below p, which is the number of p's first row; and how many rows p has
+unfoldable pub first : List Row → ℕ → ℕ
+first [] p = 0
+first (row ∷ rows) p = cond (ltb (row .process) p) (suc (first rows p)) (first rows p)
+
+unfoldable pub count : List Row → ℕ → ℕ
+count [] p = 0
+count (row ∷ rows) p = cond (eqb (row .process) p) (suc (count rows p)) (count rows p)
+
+-- "whose row number names a row on the same word": row k is in the file, and is on word w
+unfoldable pub names : List Row → ℕ → ℕ → Bool
+names [] k w = false
+names (row ∷ rows) zero w = eqb (row .word) w
+names (row ∷ rows) (suc k) w = names rows k w
+
+-- "Kind 0 reads"; and what a swap of a row puts in, over the value that it found
+abbrev pub reads : Row → Bool
+reads row = eqb (row .kind) 0
+
+abbrev pub newOf : Row → ℕ → ℕ
+newOf row v = row .new

@@ -1,0 +1,22 @@
+-- `bit_of` meets its contract: bit 16 + p of the word (`bit-stands`), as a shift reads it (`bit-of-div`).
+-- Assumes nothing.
+use mathlib.Core.Path.{sym, _∙_}
+use Prim.Native.Nat.{_+_}
+use borrow.Author.Needs.{needs}
+use Rattle.word.specs.Word.{width}
+use Rattle.word.specs.Bits.{bit-of-div}
+use Rattle.word.specs.Laws.{bit-stands}
+use Rattle.word.proofs.bit_of.Statement.{statement}
+use Rattle.word.proofs.bit_of.Tie as tie
+
+add-result : tie.Need-add-result
+add-result c = search needs
+
+shr-result : tie.Need-shr-result
+shr-result c = search needs
+
+returns : tie.Need-returns
+returns c = let a = c .args in sym (bit-stands width (a .process) (a .word) ∙ bit-of-div (width + a .process) (a .word))
+
+pub bit-of-spec : {M : Type 1} → statement M
+bit-of-spec = tie.close (tie.spec add-result shr-result returns)

@@ -1,0 +1,47 @@
+-- `swapped_of` meets its contract: the exclusive or turns bit 16 + p and no other (`put-in`), and what the value leaves of 2^32 has room for new.
+-- Assumes nothing.
+use Prim.Native.Nat.{ℕ, _+_, _*_, _-_, _%_, _^_, _<_}
+use mathlib.Core.Path.{_≡_, ap}
+use native.Mathlib.Omega.{arith}
+use native.Mathlib.Nat.{one-mul, mod-eq-of-lt}
+use lib.Pow.{pow-lt}
+use lib.Bits.{bitXor, xor-lt}
+use borrow.Author.Needs.{needs}
+use Rattle.word.specs.Word.{width, valueIn}
+use Rattle.word.proofs.Turned.{put-in}
+use Rattle.word.proofs.swapped_of.Statement.{statement}
+use Rattle.word.proofs.swapped_of.Tie as tie
+
+-- the shift loses nothing
+own : (p : ℕ) → p < 16 → (1 * 2 ^ (width + p)) % 2 ^ 32 ≡ 2 ^ (width + p)
+own p h = rw (one-mul (2 ^ (width + p))) (mod-eq-of-lt (pow-lt {i = width + p} {j = 32} (omega arith)))
+
+-- a word of 32 bits, whatever bits are turned in it, has room for another value when its own is taken out
+room : (w o v n : ℕ) → w < 2 ^ 32 → v ≡ valueIn width (bitXor w (o % 2 ^ 32)) → n < 2 ^ width → bitXor w (o % 2 ^ 32) - v + n < 2 ^ 32
+unfolding valueIn
+room w o v n h e f = omega (arith, xor-lt 32 w (o % 2 ^ 32) h (omega arith))
+
+add-own : tie.Need-add-own
+add-own c = search needs
+
+shl-own : tie.Need-shl-own
+shl-own c = search needs
+
+value-of-requires : tie.Need-value-of-requires
+value-of-requires c κs = search needs
+
+sub-result : tie.Need-sub-result
+unfolding valueIn
+sub-result c = search needs
+
+add-result : tie.Need-add-result
+unfolding valueIn
+add-result c = record { fits = room (c .before .args .word) _ _ _ (omega arith) (c .value-of .ensures) (omega arith) }
+
+returns : tie.Need-returns
+returns c = let a = c .before .args in
+    put-in width (a .process) (a .word) (a .new) _ (c .value-of .result) (ap (bitXor (a .word)) (own (a .process) (c .before .pre))) (c .value-of .ensures)
+
+pub swapped-of-spec : {M : Type 1} → statement M
+swapped-of-spec =
+    tie.close (tie.spec add-own shl-own value-of-requires sub-result add-result returns)

@@ -1,0 +1,4 @@
+pub mod Word
+pub mod Bits
+pub mod Laws
+pub mod Promises

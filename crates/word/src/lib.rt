@@ -1,0 +1,33 @@
+// A word that survives a crash: a value in its low bits, and above it a flip bit for each process.
+ghost use Prim.Native.Nat.{_<_};
+ghost use Rattle.word.specs.Promises.{Valued, Flipped, Swapped};
+
+// "A word's low 16 bits are its value": how many bits, and how many values they hold.
+const WIDTH: u32 = 16;
+
+const VALUES: u32 = 65536;
+
+pub fn value_of(word: u32) -> u32
+    ensures { λ r. ⌜ Valued word r ⌝ }
+{
+    word % VALUES
+}
+
+// The flip bit of a process.
+pub fn bit_of(process: u32, word: u32) -> bool
+    requires { ⌜ process < 16 ⌝ }
+    ensures { λ r. ⌜ Flipped process word r ⌝ }
+{
+    (word >> (WIDTH + process)) % 2 == 1
+}
+
+// The word after a process has turned its own flip bit and put in `new`.
+pub fn swapped_of(process: u32, new: u16, word: u32) -> u32
+    requires { ⌜ process < 16 ⌝ }
+    ensures { λ r. ⌜ Swapped process new word r ⌝ }
+{
+    let own = 1u32 << (WIDTH + process);
+    let turned = word ^ own;
+    let value = value_of(turned);
+    turned - value + new as u32
+}
