@@ -5,3 +5,4 @@ pub mod Machine
 pub mod Reach
 pub mod Laws
 pub mod OneByte
+pub mod Limits

@@ -1,0 +1,338 @@
+-- "Left uncrashed, a process ends its operation within 7 of its own steps from the start, or within 5 after a wake": for any rows, any
+-- start words and any schedule, whatever the others do in between. Each own step leads to a stage with fewer steps to go, or closes the
+-- row; no other byte touches the record of a process that is awake, unless it crashes it.
+-- Assumes nothing.
+use Prim.Native.Nat.{ℕ, zero, suc, _+_, _≤_, _<_}
+use mathlib.Core.Path.{_≡_, refl, sym, ap, _∙_, subst}
+use mathlib.Core.Bool.{Bool, true, false, cond}
+use mathlib.Core.List.{List, [], _∷_, _++_}
+use mathlib.Core.Logic.{_⊎_, inl, inr}
+use native.Mathlib.Omega.{arith}
+use lib.Dec.{eqb}
+use lib.ListN.{length, replicate, length-set, length-map, length-replicate}
+use lib.Seq.{getD-set-same}
+use borrow.Author.Tests.{eqb-true, eqb-false, lt-ltb}
+use Rattle.runfile.specs.declared.Row.{Row}
+use Rattle.runfile.specs.Actions.{Action, step as steps, crash as crashes, wake as wakes, crashAll as crashesAll, none as idles, action, named}
+use Rattle.runfile.specs.Operations.{rowNumbered, first, count, reads, newOf}
+use Rattle.rows.specs.declared.Entry.{Entry}
+use Rattle.machine.specs.declared.Process.{Process}
+use Rattle.machine.specs.declared.Stage.{Stage}
+use Rattle.machine.specs.declared.Stage.the-variants.{A1, A2, A3, A4, A5, A6, V1, V2, V3, V4, V5, V6}
+use Rattle.machine.specs.declared.Answer.the-variants.{False, True, Value}
+use Rattle.machine.specs.declared.Maybe.{Maybe}
+use Rattle.machine.specs.declared.Maybe.the-variants.{Nothing as None, Is}
+use Rattle.machine.specs.declared.Opened.the-variants.{Nothing as Closed, Row as Open}
+use Rattle.machine.specs.declared.Status.{Status}
+use Rattle.machine.specs.declared.Status.the-variants.{Down, Idle, Busy}
+use Rattle.machine.specs.declared.Turn.the-variants.{Quiet, Swaps, Logs, Loses}
+use Rattle.word.specs.Word.{value, bit, swapped, valueIn, bitIn, swappedIn, bitOf, turnOf, flipsIn}
+use Rattle.machine.specs.Records.{fresh, with-status, closed, wokenUp}
+use Rattle.machine.specs.Steps.{recovered, sameBit, tried, storing, decide, stepTurn, working}
+use Rattle.machine.specs.Machine.{State, processOf, turn, apply, applied, procAt, act, step, after, begin}
+use Rattle.machine.specs.Laws.{after-join, after-snoc}
+use Rattle.machine.specs.OneByte.{others, wake-awake, no-action}
+
+-- "0 step, 1 crash, 2 wake, 15 crash of all": does an action that names process q make a step of p; does it crash p
+abbrev pub stepOf : ℕ → Action → ℕ → Bool
+stepOf p steps q = eqb q p
+stepOf p crashes q = false
+stepOf p wakes q = false
+stepOf p crashesAll q = false
+stepOf p idles q = false
+
+abbrev pub crashOf : ℕ → Action → ℕ → Bool
+crashOf p steps q = false
+crashOf p crashes q = eqb q p
+crashOf p wakes q = false
+crashOf p crashesAll q = true
+crashOf p idles q = false
+
+-- how many of the bytes are of a sort
+unfoldable pub howMany : (ℕ → Bool) → List ℕ → ℕ
+howMany sort [] = 0
+howMany sort (byte ∷ bytes) = cond (sort byte) (suc (howMany sort bytes)) (howMany sort bytes)
+
+-- "of its own steps": how many of the bytes are steps of p
+abbrev pub ownSteps : ℕ → List ℕ → ℕ
+ownSteps p bytes = howMany (λ byte. stepOf p (action byte) (named byte)) bytes
+
+-- "Left uncrashed": none of the bytes is a crash of p or of all
+abbrev pub Uncrashed : ℕ → List ℕ → Type 0
+Uncrashed p bytes = howMany (λ byte. crashOf p (action byte) (named byte)) bytes ≡ 0
+
+-- "the row is closed, the process idle"; and "how many rows it has begun" is n
+pub record Ended (n : ℕ) (r : Process) : Type 0 where
+  pub idle : r .status ≡ Idle
+  pub no-row : r .opened ≡ Closed
+  pub begun : r .begun ≡ n
+
+-- "ends its operation within .. of its own steps": the bytes have a first part, with at most `limit` steps of p, after which p has ended
+-- its operation; `at` gives the state after a first part
+pub record EndsWithin (limit begun p : ℕ) (bytes : List ℕ) (at : List ℕ → State) : Type 0 where
+  pub part : List ℕ
+  pub rest : List ℕ
+  pub whole : bytes ≡ part ++ rest
+  pub few : ownSteps p part ≤ limit
+  pub ended : Ended begun (procAt p (at part))
+
+-- the same states, told otherwise
+retold : (limit begun p : ℕ) (bytes : List ℕ) (at at′ : List ℕ → State) → ((part : List ℕ) → at′ part ≡ at part) → EndsWithin limit begun p bytes at → EndsWithin limit begun p bytes at′
+retold limit begun p bytes at at′ same e = record { part = e .part; rest = e .rest; whole = e .whole; few = e .few; ended = rw (same (e .part)) (e .ended) }
+
+-- how many own steps may follow that of a stage until the row is closed: "A1 .. goes to A5; otherwise A2", "V1 .. goes to V5, else V2", ..
+unfoldable further : Stage → ℕ
+further A1 = 5
+further A2 = 4
+further A3 = 3
+further A4 = 2
+further A5 = 1
+further A6 = 0
+further V1 = 4
+further V2 = 3
+further V3 = 2
+further V4 = 1
+further V5 = 0
+further V6 = 0
+
+-- at work, with at most n own steps to go
+abbrev Working : ℕ → Status → Type 0
+Working n Down = ⊥
+Working n Idle = ⊥
+Working n (Busy stage seen readAt triedAt answer) = further stage < n
+
+-- a process of so many rows that has at most n own steps to go, and will then have begun so many: it is to start, or at work; or it has
+-- ended already
+data Pending (all n begun : ℕ) (r : Process) : Type 0 where
+  starts : r .status ≡ Idle → r .begun < all → suc (r .begun) ≡ begun → 7 ≤ n → Pending all n begun r
+  works : (k : ℕ) → Working n (r .status) → r .opened ≡ Open k → r .begun ≡ begun → Pending all n begun r
+
+abbrev Due : (all n begun : ℕ) → Process → Type 0
+Due all n begun r = Ended begun r ⊎ Pending all n begun r
+
+-- what holds of both outcomes of a test
+either : {A : Type 0} (Q : A → Type 0) (c : Bool) (x y : A) → Q x → Q y → Q (cond c x y)
+either Q true x y a b = a
+either Q false x y a b = b
+
+-- a count that comes to 0 has counted nothing
+none-more : (c : Bool) {n : ℕ} → cond c (suc n) n ≡ 0 → (c ≡ false) × (n ≡ 0)
+none-more true e = absurd (omega arith)
+none-more false e = (refl, e)
+
+-- an own step at a stage
+module _ (row : Row) (p t now : ℕ) (r : Process) (all n begun k : ℕ) (o : r .opened ≡ Open k) (b : r .begun ≡ begun) where
+  abbrev Nearer : Process → Type 0
+  Nearer = Due all n begun
+
+  -- it goes on to a stage with fewer steps to go, its row still open; or the row is closed
+  on : (next : Process) → Working n (next .status) → next .opened ≡ r .opened → next .begun ≡ r .begun → Nearer next
+  on next w q e = inr (works k w (q ∙ o) (e ∙ b))
+
+  closes : Nearer (closed r)
+  closes = inl (record { idle = refl; no-row = refl; begun = b })
+
+  -- "A5: store the answer": whatever goes into the log
+  stored : (next : Process) (seen readAt triedAt : ℕ) (answer : Maybe) → processOf r (storing row next seen readAt triedAt answer) ≡ next
+  unfolding storing
+  stored next seen readAt triedAt None = refl
+  stored next seen readAt triedAt (Is True) = refl
+  stored next seen readAt triedAt (Is (Value v)) = refl
+  stored next seen readAt triedAt (Is False) = either (λ u. processOf r u ≡ next) (eqb (value seen) (row .old)) (Loses next readAt triedAt) (Logs next readAt False) refl refl
+
+  -- a stage leads to one with fewer steps to go, by whichever branch
+  nearer : (stage : Stage) (seen readAt triedAt : ℕ) (answer : Maybe) → further stage ≤ n → Nearer (processOf r (decide row p t now r stage seen readAt triedAt answer))
+  unfolding decide tried further
+  nearer A1 seen readAt triedAt answer m = on _ (go (reads row) (eqb (value now) (row .old))) refl refl
+    where
+      go : (c d : Bool) → Working n (cond c (Busy A5 now t 0 (Is (Value (value now)))) (cond d (Busy A2 now t 0 None) (Busy A5 now t 0 (Is False))))
+      go true d = omega arith
+      go false true = omega arith
+      go false false = omega arith
+  nearer A2 seen readAt triedAt answer m = on _ (omega arith) refl refl
+  nearer A3 seen readAt triedAt answer m = on _ (omega arith) refl refl
+  nearer A4 seen readAt triedAt answer m = either (λ u. Nearer (processOf r u)) (eqb now seen) (Swaps (with-status (Busy A5 seen readAt t (Is True)) r) (swapped p (newOf row (value seen)) seen)) (Quiet (with-status (Busy A5 seen readAt t (Is False)) r)) (on _ (omega arith) refl refl) (on _ (omega arith) refl refl)
+  nearer A5 seen readAt triedAt answer m = subst Nearer (sym (stored _ seen readAt triedAt answer)) (on _ (omega arith) refl refl)
+  nearer A6 seen readAt triedAt answer m = closes
+  nearer V1 seen readAt triedAt answer m = on _ (go (r .stored)) refl refl
+    where
+      go : (stored : Maybe) → further (recovered stored) < n
+      go None = omega arith
+      go (Is a) = omega arith
+  nearer V2 seen readAt triedAt answer m = on _ (either (λ g. further g < n) (r .checkpoint) V3 V6 (omega arith) (omega arith)) refl refl
+  nearer V3 seen readAt triedAt answer m = on _ (either (λ g. further g < n) (sameBit (bit p now) (r .kept)) V4 V6 (omega arith) (omega arith)) refl refl
+  nearer V4 seen readAt triedAt answer m = on _ (omega arith) refl refl
+  nearer V5 seen readAt triedAt answer m = closes
+  nearer V6 seen readAt triedAt answer m = closes
+
+module _ (rows : List Row) (p : ℕ) where
+  -- an own step brings the end nearer
+  advance : (t : ℕ) (words : List ℕ) (log : List Entry) (r : Process) (n begun : ℕ) → Pending (count rows p) (suc n) begun r → Due (count rows p) n begun (turn rows p t words log r (r .status) .process)
+  unfolding turn stepTurn further
+  advance t words log r n begun (starts i l b m) = rw (i, lt-ltb (r .begun) (count rows p) l) (inr (works (first rows p + r .begun) (omega arith) refl b))
+  advance t words log r n begun (works k w o b) = go (r .status) w
+    where
+      go : (status : Status) → Working (suc n) status → Due (count rows p) n begun (turn rows p t words log r status .process)
+      go Down w = absurd w
+      go Idle w = absurd w
+      go (Busy stage seen readAt triedAt answer) w = rw (working _ p t _ r (r .opened) k stage seen readAt triedAt answer o) (nearer _ p t _ r (count rows p) n begun k o b stage seen readAt triedAt answer (omega arith))
+
+  -- a process at work or about to start is awake, and has a step to go
+  awake : (n begun : ℕ) (r : Process) → Pending (count rows p) n begun r → (r .status ≡ Down → ⊥) × (0 < n)
+  awake n begun r (starts i l b m) = (λ d. (let z : _≡_ {A = ℕ} 0 1 = cc in omega arith), omega arith)
+  awake n begun r (works k w o b) = go (r .status) w
+    where
+      go : (status : Status) → Working n status → (status ≡ Down → ⊥) × (0 < n)
+      go Down w = absurd w
+      go Idle w = absurd w
+      go (Busy stage seen readAt triedAt answer) w = (λ d. (let z : _≡_ {A = ℕ} 0 1 = cc in omega arith), omega arith)
+
+  -- no byte adds or removes a process
+  size : (t byte : ℕ) (s : State) → length (step rows t byte s .processes) ≡ length (s .processes)
+  unfolding step act applied apply
+  size t byte s = go (action byte)
+    where
+      go : (a : Action) → length (act rows t a (named byte) s .processes) ≡ length (s .processes)
+      go steps = length-set (s .processes) (named byte) _
+      go crashes = length-set (s .processes) (named byte) _
+      go wakes = length-set (s .processes) (named byte) _
+      go crashesAll = length-map (s .processes) _
+      go idles = refl
+
+  -- the record after an own step
+  own : (t byte : ℕ) (s : State) → p < length (s .processes) → stepOf p (action byte) (named byte) ≡ true → procAt p (step rows t byte s) ≡ turn rows p t (s .words) (s .log) (procAt p s) (procAt p s .status) .process
+  unfolding step act applied apply procAt
+  own t byte s h x = go (action byte) (named byte) x
+    where
+      go : (a : Action) (q : ℕ) → stepOf p a q ≡ true → procAt p (act rows t a q s) ≡ turn rows p t (s .words) (s .log) (procAt p s) (procAt p s .status) .process
+      go steps q x = rw (eqb-true q p x) (getD-set-same (s .processes) p _ fresh h)
+      go crashes q x = cc
+      go wakes q x = cc
+      go crashesAll q x = cc
+      go idles q x = cc
+
+  -- any other byte, unless it crashes p, leaves the record of p as it was if p is awake
+  kept : (t byte : ℕ) (s : State) → (procAt p s .status ≡ Down → ⊥) → stepOf p (action byte) (named byte) ≡ false → crashOf p (action byte) (named byte) ≡ false → procAt p (step rows t byte s) ≡ procAt p s
+  kept t byte s up x y = go (action byte) refl x y
+    where
+      other : eqb (named byte) p ≡ false → procAt p (step rows t byte s) ≡ procAt p s
+      other e = others rows t byte s (λ all. (let w : true ≡ false = subst (λ a. crashOf p a (named byte) ≡ false) all y in let z : _≡_ {A = ℕ} 0 1 = cc in omega arith)) p (λ q. eqb-false (named byte) p e (sym q))
+
+      woken : action byte ≡ wakes → (c : Bool) → eqb (named byte) p ≡ c → procAt p (step rows t byte s) ≡ procAt p s
+      woken a true e = ap (procAt p) (wake-awake rows t byte s a (subst (λ q. procAt q s .status ≡ Down → ⊥) (sym (eqb-true (named byte) p e)) up))
+      woken a false e = other e
+
+      go : (a : Action) → action byte ≡ a → stepOf p a (named byte) ≡ false → crashOf p a (named byte) ≡ false → procAt p (step rows t byte s) ≡ procAt p s
+      go steps a x y = other x
+      go crashes a x y = other y
+      go wakes a x y = woken a (eqb (named byte) p) refl
+      go crashesAll a x y = cc
+      go idles a x y = ap (procAt p) (no-action rows t byte s a)
+
+  abbrev Ends : (n begun t : ℕ) → List ℕ → State → Type 0
+  Ends n begun t bytes s = EndsWithin n begun p bytes (λ part. after rows t part s)
+
+  at-once : (n begun t : ℕ) (bytes : List ℕ) (s : State) → Ended begun (procAt p s) → Ends n begun t bytes s
+  unfolding after howMany
+  at-once n begun t bytes s e = record { part = []; rest = bytes; whole = refl; few = omega arith; ended = e }
+
+  -- with a first byte more, which may be an own step
+  onward : (n m begun t byte : ℕ) (bytes : List ℕ) (s : State) → cond (stepOf p (action byte) (named byte)) (suc m) m ≤ n → Ends m begun (suc t) bytes (step rows t byte s) → Ends n begun t (byte ∷ bytes) s
+  unfolding after howMany
+  onward n m begun t byte bytes s l f = record { part = byte ∷ f .part; rest = f .rest; whole = ap (λ l. byte ∷ l) (f .whole); few = few (stepOf p (action byte) (named byte)) l (f .few); ended = f .ended }
+    where
+      few : (c : Bool) → cond c (suc m) m ≤ n → {k : ℕ} → k ≤ m → cond c (suc k) k ≤ n
+      few true l q = omega arith
+      few false l q = omega arith
+
+  -- as many own steps as there are to go, and no crash: at some byte it has ended
+  within : (n begun t : ℕ) (bytes : List ℕ) (s : State) → p < length (s .processes) → Due (count rows p) n begun (procAt p s) → Uncrashed p bytes → n ≤ ownSteps p bytes → Ends n begun t bytes s
+  unfolding howMany
+  within n begun t [] s h d u l = go d
+    where
+      go : Due (count rows p) n begun (procAt p s) → Ends n begun t [] s
+      go (inl e) = at-once n begun t [] s e
+      go (inr d) = absurd (let some : 0 < n = awake n begun (procAt p s) d .1 in omega arith)
+  within n begun t (byte ∷ bytes) s h d u l = let v = none-more (crashOf p (action byte) (named byte)) u in go n d (v .0) (stepOf p (action byte) (named byte)) refl l (λ m e. within m begun (suc t) bytes (step rows t byte s) (rw (size t byte s) h) e (v .1))
+    where
+      go : (n : ℕ) → Due (count rows p) n begun (procAt p s) → crashOf p (action byte) (named byte) ≡ false → (c : Bool) → stepOf p (action byte) (named byte) ≡ c → n ≤ cond c (suc (ownSteps p bytes)) (ownSteps p bytes)
+          → ((m : ℕ) → Due (count rows p) m begun (procAt p (step rows t byte s)) → m ≤ ownSteps p bytes → Ends m begun (suc t) bytes (step rows t byte s))
+          → Ends n begun t (byte ∷ bytes) s
+      go n (inl e) y c x l ih = at-once n begun t (byte ∷ bytes) s e
+      go zero (inr d) y c x l ih = absurd (let some : 0 < zero = awake zero begun (procAt p s) d .1 in omega arith)
+      go (suc n) (inr d) y true x l ih = onward (suc n) n begun t byte bytes s (rw x (omega arith)) (ih n (rw (own t byte s h x) (advance t (s .words) (s .log) (procAt p s) n begun d)) (omega arith))
+      go (suc n) (inr d) y false x l ih = onward (suc n) (suc n) begun t byte bytes s (rw x (omega arith)) (ih (suc n) (rw (kept t byte s (awake (suc n) begun (procAt p s) d .0) x y) (inr d)) l)
+
+  -- p is one of the processes throughout
+  present : (t : ℕ) (bytes : List ℕ) (s : State) → p < length (s .processes) → p < length (after rows t bytes s .processes)
+  unfolding after
+  present t [] s h = h
+  present t (byte ∷ bytes) s h = present (suc t) bytes (step rows t byte s) (rw (size t byte s) h)
+
+module _ (rows : List Row) (P : ℕ) (words : List ℕ) where
+  -- the state after a schedule, and the record of process p in it
+  abbrev pub ran : List ℕ → State
+  ran bytes = after rows 0 bytes (begin P words)
+
+  abbrev pub recordOf : ℕ → List ℕ → Process
+  recordOf p bytes = procAt p (ran bytes)
+
+  module _ (p : ℕ) (h : p < P) (before : List ℕ) where
+    abbrev mine : Process
+    mine = recordOf p before
+
+    here : p < length (ran before .processes)
+    unfolding begin
+    here = present rows p 0 before (begin P words) (rw (length-replicate P fresh) h)
+
+    -- "Left uncrashed, a process ends its operation within 7 of its own steps from the start": after the bytes `before` it is idle with
+    -- rows left, so that its next own step is a Start; in the bytes `during` it is not crashed and has the 7 steps
+    pub from-start : (during : List ℕ) → recordOf p before .status ≡ Idle → recordOf p before .begun < count rows p → Uncrashed p during → 7 ≤ ownSteps p during
+        → EndsWithin 7 (suc (recordOf p before .begun)) p during (λ part. ran (before ++ part))
+    from-start during i l u n = retold _ _ p during _ _ (λ part. after-join rows 0 before part (begin P words)) (within rows p 7 (suc (mine .begun)) (0 + length before) during (ran before) here (inr (starts i l refl (omega arith))) u n)
+
+    module _ (byte : ℕ) (a : action byte ≡ wakes) (q : named byte ≡ p) (d : recordOf p before .status ≡ Down) where
+      abbrev woken : State
+      woken = step rows (0 + length before) byte (ran before)
+
+      woken-is : procAt p woken ≡ with-status (wokenUp (mine .opened)) mine
+      unfolding step act applied apply procAt
+      woken-is = rw (a, q, getD-set-same (ran before .processes) p _ fresh here, d)
+
+      -- "or within 5 after a wake": after `before` it is down with a row open, and the next byte wakes it
+      pub from-wake : (k : ℕ) (during : List ℕ) → recordOf p before .opened ≡ Open k → Uncrashed p during → 5 ≤ ownSteps p during
+          → EndsWithin 5 (recordOf p before .begun) p during (λ part. ran (before ++ (byte ∷ part)))
+      unfolding after further
+      from-wake k during o u n =
+          retold _ _ p during _ _ (λ part. after-join rows 0 before (byte ∷ part) (begin P words))
+          (within rows p 5 (mine .begun) (suc (0 + length before)) during woken (rw (size rows p (0 + length before) byte (ran before)) here) (rw (woken-is, o) (inr (works k (omega arith) refl refl))) u n)
+
+      -- "Wake: a process that is down goes to V1 if a row is open, else idle": with no row open it is idle at once
+      pub wake-idle : recordOf p before .opened ≡ Closed → Ended (recordOf p before .begun) (recordOf p (before ++ (byte ∷ [])))
+      wake-idle o = rw (after-snoc rows 0 before byte (begin P words), woken-is, o) (record { idle = refl; no-row = refl; begun = refl })
+
+-- The limits apply, and they are met. In bench case f, 2·00 5·01 5·00, process 0 has 7 steps, with 5 of process 1 in between; in bench case
+-- d, 5·00 10 20 5·00, it has 5 steps after its wake. In both its row is still open after one step less
+abbrev compare : (process old new : ℕ) → Row
+compare process old new = record { process = process; kind = 1; word = 0; old = old; new = new }
+
+module _ where
+  abbrev rows-f : List Row
+  rows-f = compare 0 7 8 ∷ compare 1 7 9 ∷ []
+
+  abbrev first-f : List ℕ
+  first-f = replicate 2 0 ++ replicate 5 1
+
+  pub case-f : EndsWithin 7 1 0 (first-f ++ replicate 5 0) (ran rows-f 2 (7 ∷ [])) × (recordOf rows-f 2 (7 ∷ []) 0 (first-f ++ replicate 4 0) .opened ≡ Open 0)
+  unfolding procAt after step act applied apply begin turn stepTurn decide tried storing count first rowNumbered howMany valueIn flipsIn swappedIn turnOf
+  case-f = (from-start rows-f 2 (7 ∷ []) 0 (omega arith) [] _ refl (omega arith) refl (omega arith), refl)
+
+  abbrev rows-d : List Row
+  rows-d = compare 0 7 8 ∷ []
+
+  abbrev crashed-d : List ℕ
+  crashed-d = replicate 5 0 ++ (16 ∷ [])
+
+  pub case-d : EndsWithin 5 1 0 (replicate 5 0) (λ part. ran rows-d 1 (7 ∷ []) (crashed-d ++ (32 ∷ part))) × (recordOf rows-d 1 (7 ∷ []) 0 (crashed-d ++ (32 ∷ replicate 4 0)) .opened ≡ Open 0)
+  unfolding procAt after step act applied apply begin turn stepTurn decide tried count first rowNumbered howMany valueIn flipsIn swappedIn turnOf bitIn bitOf
+  case-d = (from-wake rows-d 1 (7 ∷ []) 0 (omega arith) crashed-d 32 refl refl refl 0 _ refl refl (omega arith), refl)

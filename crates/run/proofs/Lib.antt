@@ -1,0 +1,4 @@
+pub mod Loop
+pub mod Start
+pub mod Cut
+pub mod Finish

@@ -1,0 +1,28 @@
+-- The start words, written one after the other: before turn i the first i stand in front.
+-- Assumes nothing.
+use mathlib.Core.Path.{_≡_, refl, sym, ap, _∙_}
+use mathlib.Core.List.{List, [], _∷_, append-assoc, append-nil}
+use Prim.Native.Nat.{ℕ, zero, suc, _+_, _<_}
+use native.Mathlib.Numerals.{add-one}
+use lib.ListN.{length, set, getD, drop, length-append}
+use lib.Seq.{drop-cons, set-at, drop-length}
+use Rattle.rows.specs.Buffers.{infront}
+use Rattle.runfile.specs.Layout.{wordIn}
+use Rattle.runfile.specs.Operations.{wordsFrom}
+
+pub length-wordsFrom : (f : List ℕ) (n : ℕ) → length (wordsFrom f n) ≡ n
+length-wordsFrom f zero = refl
+length-wordsFrom f (suc n) = length-append (wordsFrom f n) (wordIn f n ∷ []) ∙ (ap (λ (k : ℕ). k + 1) (length-wordsFrom f n) ∙ add-one n)
+
+pub load-turn : (f xs words : List ℕ) (i x : ℕ) → i < length xs → words ≡ infront (wordsFrom f i) xs → x ≡ wordIn f i → set words i x ≡ infront (wordsFrom f (i + 1)) xs
+unfolding infront
+load-turn f xs words i x h e g =
+    let l : length (wordsFrom f i) ≡ i = length-wordsFrom f i in
+    rw (add-one i, length-wordsFrom f (suc i), g, e, l, drop-cons xs i 0 h)
+    (set-at (wordsFrom f i) (getD xs i 0) (drop (suc i) xs) (wordIn f i) i l
+    ∙ sym (append-assoc (wordsFrom f i) (wordIn f i ∷ []) (drop (suc i) xs)))
+
+-- all of a buffer of as many numbers
+pub load-end : (f xs : List ℕ) → infront (wordsFrom f (length xs)) xs ≡ wordsFrom f (length xs)
+unfolding infront
+load-end f xs = rw (length-wordsFrom f (length xs), drop-length xs, append-nil (wordsFrom f (length xs)))

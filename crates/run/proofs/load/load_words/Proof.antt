@@ -1,0 +1,78 @@
+-- `load_words` meets its contract. Invariant: the first i start words stand in front. Measure: the words left.
+-- Assumes nothing.
+use Rattle.run.proofs.Start.{load-turn, load-end}
+use Rattle.rows.specs.Buffers.{infront}
+use Rattle.runfile.specs.Operations.{wordsFrom}
+use denote.Ref.{now}
+use lib.ListN.{length, length-set}
+use native.Mathlib.Omega.{arith}
+use Prim.Native.Nat.{_≤_, _-_}
+use mathlib.Core.Path.{_≡_, refl, _∙_}
+use borrow.Author.Needs.{needs}
+use Rattle.run.proofs.load.load_words.Statement.{statement}
+use Rattle.run.proofs.load.load_words.Tie as tie
+
+abbrev Inv-loop : tie.InvT-loop
+Inv-loop file words₀ i₀ words i = (i ≤ length words₀) × (length words ≡ length words₀) × (words ≡ infront (wordsFrom file i) words₀)
+
+abbrev μ-loop : tie.MeasureT-loop
+μ-loop file words₀ i₀ words i = length words₀ - i
+
+loop-holds : tie.Need-loop-holds Inv-loop μ-loop
+unfolding infront
+loop-holds c = (search needs, refl, refl)
+
+mul-u32-at : tie.Need-mul-u32-at Inv-loop μ-loop
+mul-u32-at c = search needs
+
+add-u32-at : tie.Need-add-u32-at Inv-loop μ-loop
+add-u32-at c = search needs
+
+u32-at-requires : tie.Need-u32-at-requires Inv-loop μ-loop
+u32-at-requires c κs = search needs
+
+mul-words : tie.Need-mul-words Inv-loop μ-loop
+mul-words c = search needs
+
+slice-write-words : tie.Need-slice-write-words Inv-loop μ-loop
+slice-write-words c = search needs
+
+add-i : tie.Need-add-i Inv-loop μ-loop
+add-i c = search needs
+
+loop-less : tie.Need-loop-less Inv-loop μ-loop
+loop-less c = search needs
+
+loop-again : tie.Need-loop-again Inv-loop μ-loop
+loop-again c = let l = c .before .before in
+    let a = l .before .before .before .args in
+    let v = l .loop .inv in
+    (omega arith, simp length-set (v .1), load-turn (now (a .file)) (now (a .words)) (l .loop .words) (l .loop .i) (c .u32-at .result) (omega arith) (v .2) (c .u32-at .ensures))
+
+same-length : tie.Need-same-length Inv-loop μ-loop
+same-length c = c .before .loop .inv .1
+
+returns : tie.Need-returns Inv-loop μ-loop
+returns c = let l = c .before in
+    let v = l .loop .inv in
+    let a = l .before .before .before .args in
+    let e : l .loop .i ≡ length (now (a .words)) = (let x = v .0 in let y = v .1 in let z = c .loop-test .left in omega arith) in
+    v .2 ∙ rw e (load-end (now (a .file)) (now (a .words)))
+
+pub load-words-spec : {M : Type 1} → statement M
+load-words-spec =
+    tie.close
+    (tie.spec
+    Inv-loop
+    μ-loop
+    loop-holds
+    mul-u32-at
+    add-u32-at
+    u32-at-requires
+    mul-words
+    slice-write-words
+    add-i
+    loop-less
+    loop-again
+    same-length
+    returns)

@@ -1,0 +1,13 @@
+-- No second outcome meets the contract of a run: the result and every number of the three buffers are determined, on every input.
+-- Assumes nothing.
+use Prim.Native.Nat.{ℕ}
+use mathlib.Core.Path.{_≡_, sym, _∙_}
+use mathlib.Core.List.{List}
+use Rattle.run.specs.declared.Outcome.{Outcome}
+use Rattle.run.specs.Run.{Ends}
+
+pub only : (f words log answers : List ℕ) (r q : Outcome) (words′ words″ log′ log″ answers′ answers″ : List ℕ)
+    → Ends f words log answers r words′ log′ answers′ → Ends f words log answers q words″ log″ answers″
+    → (r ≡ q) × (words′ ≡ words″) × (log′ ≡ log″) × (answers′ ≡ answers″)
+only f words log answers r q words′ words″ log′ log″ answers′ answers″ a b =
+    (a .result ∙ sym (b .result), a .words-are ∙ sym (b .words-are), a .log-is ∙ sym (b .log-is), a .answers-are ∙ sym (b .answers-are))

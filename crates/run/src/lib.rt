@@ -1,0 +1,89 @@
+// The whole: a run file is refused, and nothing is touched, or it is run.
+mod load;
+mod schedule;
+
+use load::load_words;
+use runfile::Checked;
+use runfile::Header;
+use runfile::Refusal;
+use runfile::Room;
+use schedule::run_schedule;
+ghost use Rattle.runfile.specs.Lawful.{Lawful};
+ghost use Rattle.runfile.specs.declared.Checked.the-variants as checked;
+ghost use mathlib.Core.Path.{_≡_};
+ghost use lib.ListN.{length};
+ghost use Rattle.run.specs.Buffers.{Holds};
+ghost use Rattle.run.specs.Run.{endOf, roomOf, Ends, EndsAs};
+
+// Refused, with the refusal and its place; or run, with the two row counts.
+pub enum Outcome {
+    Refused(Refusal, usize),
+    Ran { log: usize, answers: usize },
+}
+
+// How many rows stand in the log and in the answers.
+pub struct Counts {
+    pub log: usize,
+    pub answers: usize,
+}
+
+// Runs a file that is not refused over as many words as it has: the start words are loaded, and the schedule,
+// the part of the file that begins after the last row, runs over them.
+fn run_words(
+    file: &[u8],
+    header: Header,
+    words: &mut [u32],
+    log: &mut [u32],
+    answers: &mut [u32],
+) -> Counts
+    requires { ⌜ (length (now words) ≡ header .words) × Lawful header (now file) (roomOf (now words) (now log) (now answers)) ⌝ }
+    ensures { λ r. ⌜ Holds (endOf header (now (file .entry))) (now (log .entry)) (now (answers .entry)) (r .log) (r .answers) (now (words .exit)) (now (log .exit)) (now (answers .exit)) ⌝ }
+{
+    let rows = runfile::index16(header.rows);
+    let rows_at = runfile::rows_start(header);
+    let schedule_at = runfile::schedule_start(header);
+    load_words(file, words);
+    run_schedule(
+        &file[rows_at..],
+        rows,
+        &file[schedule_at..],
+        words,
+        log,
+        answers,
+    )
+}
+
+// Runs a file that is not refused: only the first W numbers of the words buffer are lent on.
+fn run_accepted(
+    file: &[u8],
+    header: Header,
+    words: &mut [u32],
+    log: &mut [u32],
+    answers: &mut [u32],
+) -> Outcome
+    requires { ⌜ Lawful header (now file) (roomOf (now words) (now log) (now answers)) ⌝ }
+    ensures { λ r. ⌜ EndsAs (checked.Accepted header) (now (file .entry)) (now (words .entry)) (now (log .entry)) (now (answers .entry)) r (now (words .exit)) (now (log .exit)) (now (answers .exit)) ⌝ }
+{
+    let count = runfile::index8(header.words);
+    let counts = run_words(file, header, &mut words[..count], log, answers);
+    Outcome::Ran {
+        log: counts.log,
+        answers: counts.answers,
+    }
+}
+
+// Runs a run file over the three lent buffers, or refuses it and leaves them untouched. Nothing is asked of
+// the caller.
+pub fn run(file: &[u8], words: &mut [u32], log: &mut [u32], answers: &mut [u32]) -> Outcome
+    ensures { λ r. ⌜ Ends (now (file .entry)) (now (words .entry)) (now (log .entry)) (now (answers .entry)) r (now (words .exit)) (now (log .exit)) (now (answers .exit)) ⌝ }
+{
+    let room = Room {
+        words: words.len(),
+        log: log.len(),
+        answers: answers.len(),
+    };
+    match runfile::check(file, room) {
+        Checked::Refused(why, place) => Outcome::Refused(why, place),
+        Checked::Accepted(header) => run_accepted(file, header, words, log, answers),
+    }
+}

@@ -1,0 +1,17 @@
+// The start words of a file, written into a buffer of as many numbers.
+ghost use mathlib.Core.Path.{_≡_};
+ghost use Prim.Native.Nat.{_≤_};
+ghost use lib.ListN.{length};
+ghost use Rattle.runfile.specs.Layout.{wordPlace};
+ghost use Rattle.runfile.specs.Operations.{wordsFrom};
+
+pub fn load_words(file: &[u8], words: &mut [u32])
+    requires { ⌜ wordPlace (length (now words)) ≤ length (now file) ⌝ }
+    ensures { λ _. ⌜ now (words .exit) ≡ wordsFrom (now (file .entry)) (length (now (words .entry))) ⌝ }
+{
+    let mut i = 0;
+    while i < words.len() {
+        words[i] = runfile::u32_at(file, 11 + i * 4);
+        i += 1;
+    }
+}
