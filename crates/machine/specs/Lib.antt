@@ -6,3 +6,4 @@ pub mod Reach
 pub mod Laws
 pub mod OneByte
 pub mod Limits
+pub mod Only

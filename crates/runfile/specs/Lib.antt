@@ -10,3 +10,4 @@ pub mod Lawful
 pub mod Exactly
 pub mod Promises
 pub mod Instances
+pub mod Enough

@@ -1,12 +1,13 @@
 -- How the rows fall to the processes, as tables of sixteen numbers: "A process's rows are carried out in file order."
 -- Assumes nothing.
 use Prim.Native.Nat.{ℕ, zero, suc, _+_, _*_, _≤_, _<_}
-use mathlib.Core.Path.{_≡_, refl, sym}
+use mathlib.Core.Path.{_≡_, refl, sym, _∙_}
 use mathlib.Core.Bool.{Bool, true, false, cond}
 use mathlib.Core.List.{List, [], _∷_}
 use native.Mathlib.Omega.{arith}
 use lib.Dec.{eqb, ltb}
 use lib.ListN.{getD, length}
+use lib.Seq.{ext-getD}
 use borrow.Author.Tests.{ltb-true, ltb-false, eqb-true, eqb-false, le-ltb}
 use Rattle.runfile.specs.declared.Row.{Row}
 use Rattle.runfile.specs.Layout.{byteAt}
@@ -18,10 +19,18 @@ pub record Lined (table : List ℕ) (n : ℕ) : Type 0 where
   pub few : n ≤ 512
   pub processes : (k : ℕ) → k < n → byteAt table (k * 8) < 16
 
+-- a table of sixteen numbers, of which number p is `value p`
+pub record Sixteen (value : ℕ → ℕ) (table : List ℕ) : Type 0 where
+  pub size : length table ≡ 16
+  pub each : (p : ℕ) → p < 16 → getD table p 0 ≡ value p
+
+-- no second table is so
+pub sixteen-one : (value : ℕ → ℕ) (a b : List ℕ) → Sixteen value a → Sixteen value b → a ≡ b
+sixteen-one value a b x y = ext-getD 0 a b (x .size ∙ sym (y .size)) (λ i h. let l : i < 16 = (let s = x .size in omega arith) in x .each i l ∙ sym (y .each i l))
+
 -- entry p of the table is the number of p's rows
-pub record Counted (rows : List Row) (counts : List ℕ) : Type 0 where
-  pub size : length counts ≡ 16
-  pub each : (p : ℕ) → p < 16 → getD counts p 0 ≡ count rows p
+abbrev pub Counted : List Row → List ℕ → Type 0
+Counted rows counts = Sixteen (count rows) counts
 
 -- the sum of the first p entries
 unfoldable pub sumTo : List ℕ → ℕ → ℕ
@@ -29,9 +38,8 @@ sumTo counts zero = 0
 sumTo counts (suc p) = sumTo counts p + getD counts p 0
 
 -- entry p of the table is the sum of the counts before p
-pub record Summed (counts firsts : List ℕ) : Type 0 where
-  pub size : length firsts ≡ 16
-  pub each : (p : ℕ) → p < 16 → getD firsts p 0 ≡ sumTo counts p
+abbrev pub Summed : List ℕ → List ℕ → Type 0
+Summed counts firsts = Sixteen (sumTo counts) firsts
 
 -- a row counts at most once: below p, of p, or later
 pub first-suc : (rows : List Row) (p : ℕ) → first rows (suc p) ≡ first rows p + count rows p
