@@ -1,0 +1,101 @@
+//! `second check`: holds every outcome against demand 3, that the log tells a
+//! true story of the run, without running anything.
+//!
+//! This module shares no code with the machine: it reads the run file and the
+//! outcome lines in its own way and knows nothing of stages. What it demands
+//! is what can be seen from outside: the file, the log, the answers and the
+//! final words.
+
+mod demands;
+mod given;
+mod outcome;
+mod positions;
+mod sum;
+mod tally;
+
+#[cfg(test)]
+mod tests;
+
+use std::fs::File;
+use std::io::{self, BufRead, BufReader, Write};
+use std::path::Path;
+
+use crate::hex::hex;
+use crate::outcome_text::next_outcome;
+use crate::stream::Record;
+use crate::Ending;
+
+use given::Given;
+use outcome::{Outcome, Told};
+use tally::Tally;
+
+/// What is wrong with an outcome, in words.
+type Violation = String;
+
+pub fn command(stream: &Path, outcomes: &Path) -> io::Result<Ending> {
+    let mut stream = BufReader::new(File::open(stream)?);
+    let mut outcomes = BufReader::new(File::open(outcomes)?);
+    check(&mut stream, &mut outcomes, &mut io::stdout().lock())
+}
+
+fn check(
+    stream: &mut impl BufRead,
+    outcomes: &mut impl BufRead,
+    out: &mut impl Write,
+) -> io::Result<Ending> {
+    let mut tally = Tally::default();
+    let mut checked = 0u64;
+    while let Some(record) = Record::read(stream)? {
+        let text = next_outcome(outcomes)?;
+        if let Err(violation) = check_record(&record, &text, &mut tally) {
+            writeln!(out, "record {checked} (counted from 0): {violation}")?;
+            out.write_all(&text)?;
+            writeln!(out, "lent {}", record.lengths)?;
+            writeln!(out, "file {}", hex(&record.file))?;
+            return Ok(Ending::Objection);
+        }
+        checked += 1;
+    }
+    if !next_outcome(outcomes)?.is_empty() {
+        writeln!(out, "more outcomes than the {checked} records")?;
+        return Ok(Ending::Objection);
+    }
+    writeln!(out, "{checked} records checked, no violation")?;
+    report_kinds(&tally, out)
+}
+
+fn report_kinds(tally: &Tally, out: &mut impl Write) -> io::Result<Ending> {
+    for kind in tally.kinds() {
+        writeln!(out, "{} {}", kind.name, kind.count)?;
+    }
+    let mut ending = Ending::Clean;
+    for kind in tally.kinds().iter().filter(|kind| kind.is_missing()) {
+        writeln!(out, "never met: {}", kind.name)?;
+        ending = Ending::Objection;
+    }
+    Ok(ending)
+}
+
+fn check_record(record: &Record, text: &[u8], tally: &mut Tally) -> Result<(), Violation> {
+    let Outcome { told, sum } = Outcome::read(text)?;
+    sum::check(&record.lengths, &told, sum)?;
+    match told {
+        Told::Refused { number, place } => {
+            if place > record.file.len() {
+                return Err(format!("the place {place} is not in the file"));
+            }
+            tally.refused(number)
+        }
+        Told::Ran(ran) => {
+            let given = Given::read(&record.file)?;
+            demands::check_counts(&given, &ran)?;
+            demands::check_replay(&given, &ran)?;
+            demands::check_once(&given, &ran)?;
+            demands::check_order(&given, &ran)?;
+            demands::check_flip_bits(&given, &ran)?;
+            positions::check(&given, &ran)?;
+            tally.ran(&given, &ran);
+            Ok(())
+        }
+    }
+}

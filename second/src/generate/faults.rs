@@ -1,0 +1,186 @@
+//! Faults by refusal number, so that each refusal is met often and at many
+//! places, and several in one file so that the order of the checks matters.
+
+use super::draft::{Draft, DraftRow};
+use super::random::Random;
+
+/// The refusals that the file alone can bring about.
+const REFUSALS_OF_THE_FILE: usize = 12;
+
+/// One fault of any number.
+pub fn single_fault(draft: Draft, random: &mut Random) -> Draft {
+    faulty(draft, 1, random)
+}
+
+/// Two to five faults of any numbers, also twice the same.
+pub fn several_faults(draft: Draft, random: &mut Random) -> Draft {
+    let count = random.between(2, 5);
+    faulty(draft, count, random)
+}
+
+/// Two to five faults of rows and schedule only, since any fault of the
+/// header would hide them.
+pub fn several_row_faults(draft: Draft, random: &mut Random) -> Draft {
+    let mut draft = roomy(draft, random);
+    for _ in 0..random.between(2, 5) {
+        let number = random.between(9, REFUSALS_OF_THE_FILE);
+        inflict(number, &mut draft, random);
+    }
+    draft
+}
+
+fn faulty(draft: Draft, count: usize, random: &mut Random) -> Draft {
+    let mut draft = roomy(draft, random);
+    for _ in 0..count {
+        let number = random.between(1, REFUSALS_OF_THE_FILE);
+        inflict(number, &mut draft, random);
+    }
+    draft
+}
+
+/// A valid draft with room for every fault: two processes, two rows and a
+/// schedule byte at least.
+fn roomy(mut draft: Draft, random: &mut Random) -> Draft {
+    draft.processes = draft.processes.max(2);
+    while draft.rows.len() < 2 {
+        let process = draft.rows.last().map_or(0, |row| row.process);
+        draft.rows.push(DraftRow::read(process, 0));
+    }
+    if draft.schedule.is_empty() {
+        draft.schedule.push(random.byte_between(0, 1));
+    }
+    Draft::honest(draft.processes, draft.words, draft.rows, draft.schedule)
+}
+
+fn inflict(number: usize, draft: &mut Draft, random: &mut Random) {
+    match number {
+        1 => draft.cut = Some(random.one_of([0, 1, 3, 9, 10, 10])),
+        2 => draft.mark[random.below(3)] ^= 1 << random.below(8),
+        3 => draft.version = wrong_version(random),
+        4 => draft.processes = random.one_of([0, 17, 18, 32, 128, 255]),
+        5 => wrong_word_count(draft, random),
+        6 => wrong_row_count(draft, random),
+        7 => wrong_schedule_length(draft, random),
+        8 => wrong_length(draft, random),
+        9 => wrong_field(draft, random),
+        10 => wrong_row_order(draft, random),
+        11 => equal_for_equal(draft, random),
+        _ => no_action(draft, random),
+    }
+}
+
+fn wrong_version(random: &mut Random) -> u16 {
+    let any = random.u16();
+    match random.one_of([0, 2, 0x0100, 0x0101, 0xFFFF, any]) {
+        1 => 0,
+        version => version,
+    }
+}
+
+/// A word count out of range; half of the time the words are really there.
+fn wrong_word_count(draft: &mut Draft, random: &mut Random) {
+    draft.word_count = random.one_of([0, 17, 18, 40, 255]);
+    if random.percent(50) {
+        draft.words.resize(usize::from(draft.word_count), 7);
+    }
+}
+
+/// A row count over 512; half of the time the rows are really there.
+fn wrong_row_count(draft: &mut Draft, random: &mut Random) {
+    draft.row_count = random.one_of([513, 514, 520, 0x0300, 0x8000, 0xFFFF]);
+    if draft.row_count <= 520 && random.percent(50) {
+        let process = draft.rows.last().map_or(0, |row| row.process);
+        let filler = DraftRow::read(process, 0);
+        draft.rows.resize(usize::from(draft.row_count), filler);
+    }
+}
+
+/// A schedule over 1,024; half of the time the bytes are really there.
+fn wrong_schedule_length(draft: &mut Draft, random: &mut Random) {
+    draft.schedule_length = random.one_of([1025, 1026, 1040, 0x0500, 0x8000, 0xFFFF]);
+    if draft.schedule_length <= 1040 && random.percent(50) {
+        draft.schedule.resize(usize::from(draft.schedule_length), 0);
+    }
+}
+
+/// A file longer or shorter than its header gives, or a header that gives
+/// one too many or too few.
+fn wrong_length(draft: &mut Draft, random: &mut Random) {
+    let whole = draft.bytes().len();
+    match random.below(6) {
+        0 => draft.tail.push(random.byte()),
+        1 => {
+            let extra = random.between(1, 300);
+            draft.tail.extend(random.bytes(extra));
+        }
+        2 => draft.cut = Some(whole.saturating_sub(1)),
+        3 => draft.cut = Some(random.below(whole)),
+        4 => draft.row_count ^= 1,
+        _ => draft.schedule_length ^= 1,
+    }
+}
+
+/// Refusal 9 in any of its forms, at any row; the smallest number that is
+/// out of range as often as all the others.
+fn wrong_field(draft: &mut Draft, random: &mut Random) {
+    let (processes, words) = (draft.processes, draft.word_count);
+    let Some(row) = any_row(draft, random) else {
+        return;
+    };
+    match random.below(6) {
+        0 => row.process = at_least(processes, random),
+        1 => row.kind = at_least(2, random),
+        2 => row.word = at_least(words, random),
+        3 => row.zero = at_least(1, random),
+        4 => (row.kind, row.old, row.new) = (0, random.u16() | 1, 0),
+        _ => (row.kind, row.old, row.new) = (0, 0, random.u16() | 0x0100),
+    }
+}
+
+fn at_least(least: u8, random: &mut Random) -> u8 {
+    let any = random.byte_between(least, 255);
+    random.one_of([least, any])
+}
+
+/// A row whose process is below that of the row before.
+fn wrong_row_order(draft: &mut Draft, random: &mut Random) {
+    let highest = draft.processes.saturating_sub(1);
+    let second = random.between(1, draft.rows.len().saturating_sub(1));
+    if let Some([before, row]) = draft.rows.get_mut(second - 1..=second) {
+        if before.process == 0 {
+            before.process = random.byte_between(1, highest.max(1));
+        }
+        row.process = random.byte_between(0, before.process.saturating_sub(1));
+    }
+}
+
+fn equal_for_equal(draft: &mut Draft, random: &mut Random) {
+    if let Some(row) = any_row(draft, random) {
+        row.kind = 1;
+        row.new = row.old;
+    }
+}
+
+/// A byte that is no action, at any place of the schedule.
+fn no_action(draft: &mut Draft, random: &mut Random) {
+    let byte = match random.below(3) {
+        0 => random.byte_between(0xF1, 0xFF),
+        1 if draft.processes < 16 => {
+            let any = random.byte_between(draft.processes, 15);
+            random.one_of([0x00, 0x10, 0x20]) | random.one_of([draft.processes, any])
+        }
+        _ => {
+            let any = random.byte_between(0x30, 0xEF);
+            random.one_of([0x30, 0xE0, any])
+        }
+    };
+    let at = random.below(draft.schedule.len());
+    if let Some(slot) = draft.schedule.get_mut(at) {
+        *slot = byte;
+    }
+}
+
+fn any_row<'d>(draft: &'d mut Draft, random: &mut Random) -> Option<&'d mut DraftRow> {
+    let at = random.below(draft.rows.len());
+    draft.rows.get_mut(at)
+}

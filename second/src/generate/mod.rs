@@ -1,0 +1,129 @@
+//! `second generate`: a stream of run files, valid and damaged, mixed by a
+//! seed, with buffers long enough and too short.
+
+mod draft;
+mod faults;
+mod lengths;
+mod random;
+mod raw;
+mod scenes;
+mod script;
+mod valid;
+
+use std::io::{self, BufWriter, Write};
+
+use crate::stream::{Record, LONGEST_FILE};
+use crate::Ending;
+
+use draft::Draft;
+use random::Random;
+use valid::{fullest_draft, valid_draft};
+
+pub fn command(seed: u64, count: u64) -> io::Result<Ending> {
+    let mut random = Random::seeded(seed);
+    let mut out = BufWriter::new(io::stdout().lock());
+    for _ in 0..count {
+        any_record(&mut random).write(&mut out)?;
+    }
+    out.flush()?;
+    Ok(Ending::Clean)
+}
+
+#[derive(Clone, Copy)]
+enum Kind {
+    Valid,
+    ShortBuffers,
+    SingleFault,
+    SeveralFaults,
+    SeveralRowFaults,
+    Damaged,
+}
+
+fn any_record(random: &mut Random) -> Record {
+    let kind = random.weighted([
+        (46, Kind::Valid),
+        (12, Kind::ShortBuffers),
+        (18, Kind::SingleFault),
+        (6, Kind::SeveralFaults),
+        (8, Kind::SeveralRowFaults),
+        (10, Kind::Damaged),
+    ]);
+    let draft = if random.percent(2) {
+        fullest_draft(random)
+    } else {
+        valid_draft(random)
+    };
+    record_of(kind, draft, random)
+}
+
+fn record_of(kind: Kind, draft: Draft, random: &mut Random) -> Record {
+    let needed = lengths::exact(draft.words.len(), draft.schedule.len());
+    match kind {
+        Kind::Valid => Record {
+            file: draft.bytes(),
+            lengths: lengths::sufficient(needed, random),
+        },
+        Kind::ShortBuffers => Record {
+            file: draft.bytes(),
+            lengths: lengths::short(needed, random),
+        },
+        Kind::SingleFault => refusable(faults::single_fault(draft, random).bytes(), random),
+        Kind::SeveralFaults => refusable(faults::several_faults(draft, random).bytes(), random),
+        Kind::SeveralRowFaults => {
+            refusable(faults::several_row_faults(draft, random).bytes(), random)
+        }
+        Kind::Damaged => refusable(raw::damaged(draft, random), random),
+    }
+}
+
+/// A record of a file that is likely to be refused, within the stream's limit.
+fn refusable(mut file: Vec<u8>, random: &mut Random) -> Record {
+    file.truncate(LONGEST_FILE);
+    Record {
+        file,
+        lengths: lengths::any(random),
+    }
+}
+
+#[cfg(test)]
+mod tests {
+    use super::*;
+    use crate::stream::{MOST_ANSWERS, MOST_LOG, MOST_WORDS};
+
+    #[test]
+    fn records_stay_within_the_limits_of_a_stream() {
+        let mut random = Random::seeded(7);
+        for _ in 0..2_000 {
+            let Record { file, lengths } = any_record(&mut random);
+            assert!(file.len() <= LONGEST_FILE);
+            assert!(lengths.words <= MOST_WORDS);
+            assert!(lengths.log <= MOST_LOG);
+            assert!(lengths.answers <= MOST_ANSWERS);
+        }
+    }
+
+    #[test]
+    fn a_seed_gives_the_same_records_again() {
+        let records = |seed| {
+            let mut random = Random::seeded(seed);
+            (0..50).map(|_| any_record(&mut random)).collect::<Vec<_>>()
+        };
+        assert_eq!(records(3), records(3));
+        assert_ne!(records(3), records(4));
+    }
+
+    /// The generator's valid files are valid: each has an outcome that is no
+    /// refusal, and the checker in its turn must find them readable.
+    #[test]
+    fn valid_files_run() {
+        let mut random = Random::seeded(11);
+        for _ in 0..500 {
+            let draft = valid_draft(&mut random);
+            let record = record_of(Kind::Valid, draft, &mut random);
+            let mut printed = Vec::new();
+            crate::sweep::print_record(&record, &mut printed).unwrap();
+            assert!(printed.starts_with(b"run "));
+        }
+        assert_eq!(fullest_draft(&mut random).bytes().len(), 5_195);
+    }
+}

@@ -1,0 +1,199 @@
+//! A script: rows and schedule of a valid file as they come to be written,
+//! and the moves of which scenes are made.
+//!
+//! The script keeps a guess of each word's value, so that compare rows find
+//! their old value. The guess may go wrong after a crash; that is no harm, it
+//! only makes some scenes come out otherwise than meant.
+
+use super::draft::{Draft, DraftRow, Palette};
+use super::random::Random;
+
+const CRASH: u8 = 0x10;
+const WAKE: u8 = 0x20;
+const CRASH_OF_ALL: u8 = 0xF0;
+
+/// A swap takes 7 steps: start, A1 to A6.
+pub const SWAP_STEPS: usize = 7;
+/// A read, or a compare that meets another value, takes 4: start, A1, A5, A6.
+pub const SHORT_STEPS: usize = 4;
+/// After this many steps an operation has read its word.
+pub const STEPS_TO_A1: usize = 2;
+/// After this many steps a swap has set its checkpoint.
+pub const STEPS_TO_A3: usize = 4;
+/// After this many steps a swap has done its A4.
+pub const STEPS_TO_A4: usize = 5;
+
+/// How large a file is to be.
+#[derive(Clone, Copy)]
+pub struct Size {
+    pub processes: usize,
+    pub words: usize,
+    pub schedule: usize,
+    /// Rows that no scene needs, added to the processes' own.
+    pub spare_rows: usize,
+}
+
+pub struct Script<'r> {
+    pub random: &'r mut Random,
+    palette: Palette,
+    start_words: Vec<u32>,
+    /// The value that each word has by now, if all went as meant.
+    pub values: Vec<u16>,
+    /// The rows of each process, in the order in which it is to do them.
+    rows: Vec<Vec<DraftRow>>,
+    schedule: Vec<u8>,
+}
+
+/// An operation that a scene has opened.
+#[derive(Clone, Copy)]
+pub struct Opened {
+    /// How many steps it takes when nobody disturbs it.
+    pub steps: usize,
+    /// The value that it puts in, if it is to swap.
+    pub new: Option<u16>,
+}
+
+impl<'r> Script<'r> {
+    pub fn blank(size: Size, random: &'r mut Random) -> Script<'r> {
+        let palette = Palette::pick(random);
+        let start_words: Vec<u32> = (0..size.words)
+            .map(|_| palette.start_word(random))
+            .collect();
+        Script {
+            palette,
+            values: start_words.iter().map(|word| *word as u16).collect(),
+            start_words,
+            rows: vec![Vec::new(); size.processes],
+            schedule: Vec::new(),
+            random,
+        }
+    }
+
+    /// The file, with its schedule cut to length: an operation may be left in
+    /// its midst.
+    pub fn finish(mut self, size: Size) -> Draft {
+        self.schedule.truncate(size.schedule);
+        for _ in 0..size.spare_rows {
+            let process = self.any_process();
+            let row = self.palette.row(process as u8, size.words, self.random);
+            self.rows[process].push(row);
+        }
+        let rows = self.rows.concat();
+        Draft::honest(size.processes as u8, self.start_words, rows, self.schedule)
+    }
+
+    pub fn length(&self) -> usize {
+        self.schedule.len()
+    }
+
+    pub fn steps(&mut self, process: usize, count: usize) {
+        self.schedule.extend(vec![process as u8; count]);
+    }
+
+    pub fn wake(&mut self, process: usize) {
+        self.schedule.push(WAKE | process as u8);
+    }
+
+    /// A crash of one, or now and then of all with the others woken again.
+    pub fn crash(&mut self, process: usize) {
+        if self.random.percent(85) {
+            self.schedule.push(CRASH | process as u8);
+            return;
+        }
+        self.crash_all();
+        for other in (0..self.rows.len()).filter(|other| *other != process) {
+            self.wake(other);
+        }
+    }
+
+    pub fn crash_all(&mut self) {
+        self.schedule.push(CRASH_OF_ALL);
+    }
+
+    /// Any byte that is an action, also if it changes nothing.
+    pub fn any_action(&mut self) {
+        let process = self.any_process() as u8;
+        let byte = self.random.weighted([
+            (60, process),
+            (10, CRASH | process),
+            (28, WAKE | process),
+            (2, CRASH_OF_ALL),
+        ]);
+        self.schedule.push(byte);
+    }
+
+    /// A row that swaps the word's value as guessed; its new value.
+    pub fn open_next_swap(&mut self, process: usize, word: usize) -> u16 {
+        let old = self.values[word];
+        let new = self.palette.value_other_than(old, self.random);
+        self.open_swap(process, word, old, new);
+        new
+    }
+
+    pub fn open_swap(&mut self, process: usize, word: usize, old: u16, new: u16) {
+        self.rows[process].push(DraftRow::swap(process as u8, word as u8, old, new));
+    }
+
+    /// Mostly a swap; else a read, or a compare that meets another value.
+    pub fn open_any(&mut self, process: usize, word: usize) -> Opened {
+        let choice = self.random.below(10);
+        if choice < 6 {
+            return Opened {
+                steps: SWAP_STEPS,
+                new: Some(self.open_next_swap(process, word)),
+            };
+        }
+        if choice < 8 {
+            self.rows[process].push(DraftRow::read(process as u8, word as u8));
+        } else {
+            let old = self
+                .palette
+                .value_other_than(self.values[word], self.random);
+            let new = self.palette.value_other_than(old, self.random);
+            self.open_swap(process, word, old, new);
+        }
+        Opened {
+            steps: SHORT_STEPS,
+            new: None,
+        }
+    }
+
+    /// A swap from beginning to end that nobody disturbs.
+    pub fn whole_swap(&mut self, process: usize, word: usize) {
+        self.values[word] = self.open_next_swap(process, word);
+        self.steps(process, SWAP_STEPS);
+    }
+
+    pub fn any_process(&mut self) -> usize {
+        self.random.below(self.rows.len())
+    }
+
+    pub fn any_word(&mut self) -> usize {
+        self.random.below(self.values.len())
+    }
+
+    /// Two processes, different ones if there are two.
+    pub fn two_processes(&mut self) -> (usize, usize) {
+        let first = self.any_process();
+        (first, self.other_than(first))
+    }
+
+    pub fn other_than(&mut self, process: usize) -> usize {
+        let count = self.rows.len();
+        let further = 1 + self.random.below(count.saturating_sub(1));
+        (process + further) % count
+    }
+
+    /// All processes, in any order.
+    pub fn all_processes(&mut self) -> Vec<usize> {
+        let mut processes: Vec<usize> = (0..self.rows.len()).collect();
+        self.random.shuffle(&mut processes);
+        processes
+    }
+
+    pub fn several_processes(&mut self) -> Vec<usize> {
+        let mut processes = self.all_processes();
+        processes.truncate(self.random.between(2, 5));
+        processes
+    }
+}

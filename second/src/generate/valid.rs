@@ -1,0 +1,99 @@
+//! Valid files: of scenes, or wild.
+
+use super::draft::{Draft, DraftRow, Palette};
+use super::random::Random;
+use super::scenes::write_scenes;
+use super::script::Size;
+
+const MOST: usize = 16;
+const MOST_ROWS: usize = 512;
+const LONGEST_SCHEDULE: usize = 1024;
+
+pub fn valid_draft(random: &mut Random) -> Draft {
+    let size = any_size(random);
+    within_the_row_limit(if random.percent(75) {
+        write_scenes(size, random)
+    } else {
+        write_wild(size, random)
+    })
+}
+
+/// A file with all that fits in: 5,195 bytes.
+pub fn fullest_draft(random: &mut Random) -> Draft {
+    let size = Size {
+        processes: MOST,
+        words: MOST,
+        schedule: LONGEST_SCHEDULE,
+        spare_rows: MOST_ROWS,
+    };
+    within_the_row_limit(write_wild(size, random))
+}
+
+/// Rows needed and spare rows may be too many together; the last ones go.
+fn within_the_row_limit(mut draft: Draft) -> Draft {
+    draft.rows.truncate(MOST_ROWS);
+    Draft::honest(draft.processes, draft.words, draft.rows, draft.schedule)
+}
+
+fn any_size(random: &mut Random) -> Size {
+    let processes = random.weighted([(15, (1, 1)), (35, (2, 2)), (30, (3, 4)), (20, (5, MOST))]);
+    let words = random.weighted([(50, (1, 1)), (30, (2, 3)), (20, (4, MOST))]);
+    let schedule = random.weighted([
+        (3, (0, 0)),
+        (12, (1, 12)),
+        (40, (13, 120)),
+        (30, (121, 400)),
+        (12, (401, LONGEST_SCHEDULE)),
+        (3, (LONGEST_SCHEDULE, LONGEST_SCHEDULE)),
+    ]);
+    let spare_rows = random.weighted([(60, (0, 0)), (36, (1, 30)), (4, (MOST_ROWS, MOST_ROWS))]);
+    let mut within = |(low, high): (usize, usize)| random.between(low, high);
+    Size {
+        processes: within(processes),
+        words: within(words),
+        schedule: within(schedule),
+        spare_rows: within(spare_rows),
+    }
+}
+
+/// Any rows of few values, and a schedule in bursts of one process, with
+/// crashes and wakes wherever they fall.
+fn write_wild(size: Size, random: &mut Random) -> Draft {
+    let palette = Palette::pick(random);
+    let words = (0..size.words)
+        .map(|_| palette.start_word(random))
+        .collect();
+    let row_count = size.schedule / 5 + size.spare_rows;
+    let mut owners: Vec<u8> = (0..row_count)
+        .map(|_| random.below(size.processes) as u8)
+        .collect();
+    owners.sort_unstable();
+    let rows: Vec<DraftRow> = owners
+        .iter()
+        .map(|process| palette.row(*process, size.words, random))
+        .collect();
+    let schedule = wild_schedule(size, random);
+    Draft::honest(size.processes as u8, words, rows, schedule)
+}
+
+fn wild_schedule(size: Size, random: &mut Random) -> Vec<u8> {
+    let longest_burst = random.one_of([1, 3, 8]);
+    let crashes = random.one_of([0, 2, 8]);
+    let mut schedule = Vec::new();
+    while schedule.len() < size.schedule {
+        let process = random.below(size.processes) as u8;
+        let burst = random.between(1, longest_burst);
+        schedule.extend(vec![process; burst]);
+        if random.percent(crashes) {
+            schedule.push(0x10 | process);
+        }
+        if random.percent(crashes * 3) {
+            schedule.push(0x20 | random.below(size.processes) as u8);
+        }
+        if random.percent(crashes) && random.percent(10) {
+            schedule.push(0xF0);
+        }
+    }
+    schedule.truncate(size.schedule);
+    schedule
+}

@@ -1,0 +1,63 @@
+//! The table "Refusal numbers".
+
+/// Why a file is refused; each case has its number in the table.
+#[derive(Clone, Copy, Debug, PartialEq, Eq)]
+pub enum Cause {
+    /// "file under 11 bytes"
+    Under11Bytes = 1,
+    /// "mark is not `SWR`"
+    Mark = 2,
+    /// "version is not 1"
+    Version = 3,
+    /// "P is 0 or over 16"
+    ProcessCount = 4,
+    /// "W is 0 or over 16"
+    WordCount = 5,
+    /// "over 512 rows"
+    RowCount = 6,
+    /// "S over 1,024"
+    ScheduleLength = 7,
+    /// "file length is not what the header gives"
+    FileLength = 8,
+    /// "a row's process, kind or word out of range, its zero byte not 0, or
+    /// a read whose old or new is not 0"
+    RowField = 9,
+    /// "a row's process is below that of the row before"
+    RowOrder = 10,
+    /// "a compare row with old equal to new"
+    OldEqualsNew = 11,
+    /// "a schedule byte that is no action"
+    NoAction = 12,
+    /// "words buffer under W"
+    WordsBuffer = 13,
+    /// "log buffer under 5 × S"
+    LogBuffer = 14,
+    /// "answers buffer under 5 × S"
+    AnswersBuffer = 15,
+}
+
+/// "The result is the number and a place, counted in bytes of the file from 0".
+#[derive(Clone, Copy, Debug, PartialEq, Eq)]
+pub struct Refusal {
+    pub cause: Cause,
+    pub place: usize,
+}
+
+impl Refusal {
+    pub fn number(self) -> u32 {
+        self.cause as u32
+    }
+}
+
+/// A check that has the whole file for its object: its place is 0.
+pub fn refuse_if(faulty: bool, cause: Cause) -> Result<(), Refusal> {
+    refuse_at(faulty.then_some(0), cause)
+}
+
+/// A check that looks for the first offender: refuses at that place, if any.
+pub fn refuse_at(place: Option<usize>, cause: Cause) -> Result<(), Refusal> {
+    match place {
+        Some(place) => Err(Refusal { cause, place }),
+        None => Ok(()),
+    }
+}

@@ -1,0 +1,84 @@
+//! `second`: an independent second program for the machine of document 01.
+//!
+//! "Other cases are run and compared with an independent second program."
+//! This is that program. It was written from document 01 alone; comments
+//! quote the sentence that a piece of code renders.
+
+#![forbid(unsafe_code)]
+
+mod checker;
+mod compare;
+mod generate;
+mod hex;
+mod lines;
+mod machine;
+mod outcome_text;
+mod run;
+mod stream;
+mod sweep;
+
+#[cfg(test)]
+mod bench_cases;
+
+use std::env;
+use std::ffi::{OsStr, OsString};
+use std::io;
+use std::path::Path;
+use std::process::ExitCode;
+
+const USAGE: &str = "usage:
+  second run < FILE
+  second generate SEED COUNT > STREAM
+  second sweep < STREAM > OUTCOMES
+  second compare STREAM OUTCOMES_A OUTCOMES_B
+  second check STREAM OUTCOMES";
+
+/// How a subcommand ended, when reading and writing went well.
+#[derive(Clone, Copy, PartialEq, Eq)]
+pub enum Ending {
+    /// Nothing to object to: exit status 0.
+    Clean,
+    /// A difference or a violation was found and printed: exit status 1.
+    Objection,
+}
+
+fn main() -> ExitCode {
+    // `args_os`, since `args` panics on an argument that is not Unicode.
+    let arguments: Vec<OsString> = env::args_os().skip(1).collect();
+    match dispatch(&arguments) {
+        Some(Ok(Ending::Clean)) => ExitCode::SUCCESS,
+        Some(Ok(Ending::Objection)) => ExitCode::from(1),
+        Some(Err(error)) => complain(&error.to_string()),
+        None => complain(USAGE),
+    }
+}
+
+/// Carries out the subcommand; `None` if the arguments name none.
+fn dispatch(arguments: &[OsString]) -> Option<io::Result<Ending>> {
+    let (name, rest) = arguments.split_first()?;
+    match (name.to_str()?, rest) {
+        ("run", []) => Some(run::command()),
+        ("generate", [seed, count]) => Some(generate::command(number(seed)?, number(count)?)),
+        ("sweep", []) => Some(sweep::command()),
+        ("compare", [stream, a, b]) => Some(compare::command(
+            Path::new(stream),
+            Path::new(a),
+            Path::new(b),
+        )),
+        ("check", [stream, outcomes]) => {
+            Some(checker::command(Path::new(stream), Path::new(outcomes)))
+        }
+        _ => None,
+    }
+}
+
+fn number(argument: &OsStr) -> Option<u64> {
+    argument.to_str()?.parse().ok()
+}
+
+/// Says on standard error what is wrong; exit status 2. A closed standard
+/// error is no reason to fail otherwise, hence no `eprintln!`.
+fn complain(message: &str) -> ExitCode {
+    let _ = io::Write::write_all(&mut io::stderr(), format!("second: {message}\n").as_bytes());
+    ExitCode::from(2)
+}
