@@ -3,31 +3,27 @@
 use Prim.Native.Nat.{ℕ, zero, suc, _+_, _≤_, _<_}
 use mathlib.Core.Path.{_≡_, refl, sym, _∙_, ap, ap₂, subst}
 use mathlib.Core.Bool.{Bool, true, false}
-use mathlib.Core.List.{List, [], _∷_, _++_, map}
+use mathlib.Core.List.{List, [], _∷_, _++_, map, append-nil}
 use lib.Dec.{eqb}
-use lib.ListN.{length, getD, set}
+use lib.ListN.{length, getD, set, List·getD-map, length-map}
 use Rattle.rows.specs.declared.Entry.{Entry}
-use Rattle.machine.specs.Machine.{Effect}
-use Rattle.machine.specs.Machine.{quiet, swaps, logs, replies}
+use Rattle.machine.specs.Machine.{Effect, quiet, swaps, logs, replies, State, apply}
 use Rattle.runfile.specs.declared.Row.{Row}
 use Rattle.machine.specs.declared.Process.{Process}
-use Rattle.word.specs.Word.{valueIn, value, bit}
+use Rattle.word.specs.Word.{valueIn, value, bit, width}
 use Rattle.runfile.specs.Operations.{rowNumbered, first, count, newOf}
 use Rattle.rows.specs.Log.{insert, isSwap}
 use Rattle.rows.specs.Entries.{isTrue}
 use native.Mathlib.Omega.{arith}
-use mathlib.Core.List.{append-nil}
-use lib.ListN.{List·getD-map, length-map}
 use lib.Seq.{getD-set-same, getD-set-other}
 use borrow.Author.Tests.{eq-eqb, ne-eqb, eqb-true, eqb-false}
-use Rattle.machine.specs.Machine.{State, apply}
 use Rattle.machine.specs.Steps.{spoken}
-use Rattle.word.specs.Word.{width, valueIn}
 use Rattle.word.specs.Laws.{after-swap}
 use Rattle.replay.specs.Lists.{All, all-join, all-map, all-put, keep, keep-join, keep-put-no, keep-put-yes}
 use Rattle.replay.specs.Logs.{Ordered, sorted-put, Put, put, insert-last}
 use Rattle.replay.specs.Replay.{Good, final, moved-true, final-join, right-join, length-final, right-put, final-put, early-put, early-put-later, different, is-swap}
-use Rattle.demand3.specs.Invariant.{of, Times, wordOf, HasSwap, Since, as-read, overtaken, Global, Swapping, Logging, Allowed}
+use Rattle.demand3.specs.Statement.{of}
+use Rattle.demand3.specs.Invariant.{Times, wordOf, HasSwap, Since, as-read, overtaken, Global, Swapping, Logging, Allowed}
 use Rattle.demand3.specs.Frames.{Frame}
 
 map-set : (f : ℕ → ℕ) (l : List ℕ) (i y : ℕ) → map f (set l i y) ≡ set (map f l) i (f y)

@@ -22,7 +22,8 @@ use Rattle.machine.specs.Steps.{sameBit}
 use Rattle.replay.specs.Logs.{early}
 use Rattle.replay.specs.Replay.{final}
 use native.Mathlib.Omega.{arith}
-use Rattle.demand3.specs.Invariant.{of, Once, Logged, Ended, due, Times, matches, HasSwap, Seen, Since, Reading, Pending, won, held, lost, AtStage, working, StatusOk, IsOpen, Local}
+use Rattle.demand3.specs.Statement.{of, Once, Logged}
+use Rattle.demand3.specs.Invariant.{Ended, due, Times, matches, HasSwap, Seen, Since, Reading, Pending, won, held, lost, AtStage, working, StatusOk, IsOpen, Local}
 
 pub once-alone : {p k : ℕ} {m : Maybe} {l l′ : List Entry} → of k l′ ≡ of k l → Once p k m l → Once p k m l′
 once-alone e o = record { entry = o .entry; once = e ∙ o .once; process = o .process; says-so = o .says-so }

@@ -4,11 +4,9 @@ use Prim.Native.Nat.{ℕ, suc, _+_, _≤_, _<_}
 use mathlib.Core.Path.{_≡_}
 use mathlib.Core.Bool.{Bool, true, false, not}
 use mathlib.Core.List.{List, [], _∷_, map}
-use lib.Dec.{eqb}
 use lib.ListN.{length, getD}
 use Rattle.rows.specs.declared.Entry.{Entry}
-use Rattle.machine.specs.Machine.{Effect}
-use Rattle.machine.specs.Machine.{quiet, swaps, logs, replies}
+use Rattle.machine.specs.Machine.{Effect, quiet, swaps, logs, replies, State, procAt}
 use Rattle.runfile.specs.declared.Row.{Row}
 use Rattle.machine.specs.declared.Process.{Process}
 use Rattle.machine.specs.declared.Stage.{Stage}
@@ -24,28 +22,14 @@ use Rattle.word.specs.Word.{value, bit, swapped}
 use Rattle.runfile.specs.Operations.{rowNumbered, first, count, reads, newOf}
 use Rattle.rows.specs.Entries.{said, isTrue}
 use Rattle.rows.specs.Log.{isSwap}
-use Rattle.machine.specs.Machine.{State, procAt}
 use Rattle.machine.specs.Steps.{sameBit, spoken}
 use Rattle.replay.specs.Lists.{All, keep}
+use Rattle.demand3.specs.Statement.{of, Once, Logged}
 use Rattle.replay.specs.Logs.{Sorted, early}
-use Rattle.replay.specs.Replay.{answerOf, final, Right, RightAt}
+use Rattle.replay.specs.Plain.{answerOf}
+use Rattle.replay.specs.Replay.{final, Right, RightAt}
 
--- the entries of row k
-unfoldable pub of : ℕ → List Entry → List Entry
-of k l = keep (λ e. eqb (e .row) k) l
-
--- row k stands in l exactly once, for process p, and says m
-pub record Once (p k : ℕ) (m : Maybe) (l : List Entry) : Type 0 where
-  pub entry : Entry
-  pub once : of k l ≡ entry ∷ []
-  pub process : entry .process ≡ p
-  pub says-so : said entry ≡ spoken m
-
--- what the log must hold for an operation that has answered so: nothing for a fail
-abbrev pub Logged : ℕ → ℕ → Maybe → List Entry → Type 0
-Logged p k None log = of k log ≡ []
-Logged p k (Is a) log = Once p k (Is a) log
-
+-- an ended operation
 pub record Ended (p k : ℕ) (log answers : List Entry) : Type 0 where
   pub answer : Maybe
   pub answered : Once p k answer answers

@@ -1,6 +1,16 @@
+pub mod Statement
 pub mod Invariant
 pub mod Frames
 pub mod Effects
 pub mod Plans
 pub mod Own
 pub mod Preserve
+pub mod Moves
+pub mod Past
+pub mod Swaps
+pub mod Order
+pub mod Lost
+pub mod Demand
+pub mod File
+pub mod Wrong
+pub mod Capture

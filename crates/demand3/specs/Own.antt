@@ -2,13 +2,12 @@
 -- Assumes nothing.
 use Prim.Native.Nat.{ℕ, suc, _+_, _≤_, _<_}
 use mathlib.Core.Path.{_≡_, refl, sym, _∙_, ap, ap₂, subst}
-use mathlib.Core.Bool.{Bool, true, false, not}
+use mathlib.Core.Bool.{Bool, true, false, not, cond}
 use mathlib.Core.List.{List, [], _∷_, _++_}
 use lib.Dec.{eqb, ltb}
 use lib.ListN.{length, getD, set}
 use Rattle.rows.specs.declared.Entry.{Entry}
-use Rattle.machine.specs.Machine.{quiet, swaps, logs, replies}
-use Rattle.machine.specs.Machine.{Move}
+use Rattle.machine.specs.Machine.{quiet, swaps, logs, replies, Move, State, alone, apply, moveOf}
 use Rattle.machine.specs.declared.Turn.the-variants.{Quiet, Swaps}
 use Rattle.runfile.specs.declared.Row.{Row}
 use Rattle.machine.specs.declared.Process.{Process}
@@ -22,8 +21,7 @@ use Rattle.machine.specs.declared.Opened.{Opened}
 use Rattle.machine.specs.declared.Opened.the-variants.{Nothing as Closed, Row as Open}
 use Rattle.machine.specs.declared.Status.{Status}
 use Rattle.machine.specs.declared.Status.the-variants.{Busy}
-use Rattle.word.specs.Word.{value, bit, swapped}
-use mathlib.Core.Bool.{cond}
+use Rattle.word.specs.Word.{value, bit, swapped, width}
 use Rattle.runfile.specs.Operations.{rowNumbered, first, count, reads, newOf}
 use Rattle.rows.specs.Entries.{Said, said, isTrue}
 use Rattle.rows.specs.Log.{firstSwap, isSwap}
@@ -31,16 +29,16 @@ use native.Mathlib.Omega.{arith}
 use mathlib.Core.Logic.{_≢_}
 use lib.Seq.{getD-set-same}
 use borrow.Author.Tests.{eq-eqb, ne-eqb, eqb-true, eqb-false, ltb-true}
-use Rattle.machine.specs.Machine.{State, alone, apply, moveOf}
 use Rattle.machine.specs.Steps.{entry, tried, storing, recovered, sameBit, decide, spoken}
 use Rattle.machine.specs.Records.{with-status, with-kept, with-checkpoint, with-stored, closed, started}
-use Rattle.word.specs.Word.{width}
 use Rattle.word.specs.Laws.{after-swap}
 use Rattle.replay.specs.Lists.{All, all-map, all-right, Found, keep-found}
 use Rattle.replay.specs.Logs.{early, early-all, put}
-use Rattle.replay.specs.Replay.{answerOf, Good, final, RightAt, different, swap-on, first-swap}
+use Rattle.replay.specs.Plain.{answerOf}
+use Rattle.replay.specs.Replay.{Good, final, RightAt, different, swap-on, first-swap}
 use Rattle.replay.specs.Replay as replay
-use Rattle.demand3.specs.Invariant.{of, Logged, Ended, due, Times, wordOf, matches, HasSwap, Seen, Since, as-read, overtaken, Reading, Pending, won, held, lost, AtStage, working, StatusOk, IsOpen, Local, Global, Swapping, Allowed}
+use Rattle.demand3.specs.Statement.{of, Logged}
+use Rattle.demand3.specs.Invariant.{Ended, due, Times, wordOf, matches, HasSwap, Seen, Since, as-read, overtaken, Reading, Pending, won, held, lost, AtStage, working, StatusOk, IsOpen, Local, Global, Swapping, Allowed}
 use Rattle.demand3.specs.Frames.{ended-alone}
 use Rattle.demand3.specs.Effects.{words-length, plain, of-put, of-last, of-put-own, of-last-own}
 
@@ -208,7 +206,7 @@ unfolding answerOf spoken
 answer-read row v h = rw h
 
 -- an answer false is given at a value that is not old
-answer-false : (row : Row) (v : ℕ) → spoken (Is False) ≡ answerOf row v → eqb v (row .old) ≡ false
+pub answer-false : (row : Row) (v : ℕ) → spoken (Is False) ≡ answerOf row v → eqb v (row .old) ≡ false
 unfolding answerOf spoken
 answer-false row v = go (reads row) (eqb v (row .old))
   where
@@ -218,7 +216,7 @@ answer-false row v = go (reads row) (eqb v (row .old))
     go false false h = refl
 
 -- no row answers fail
-answer-never : (row : Row) (v : ℕ) → spoken None ≡ answerOf row v → ⊥
+pub answer-never : (row : Row) (v : ℕ) → spoken None ≡ answerOf row v → ⊥
 unfolding answerOf spoken
 answer-never row v = go (reads row) (eqb v (row .old))
   where

@@ -1,14 +1,12 @@
 -- The invariant holds at first, and each byte keeps it.
 -- Assumes nothing.
-use Prim.Native.Nat.{ℕ, zero, suc, _+_, _≤_, _<_}
+use Prim.Native.Nat.{ℕ, zero, suc, _+_, _≤_, _<_, _/_, _%_}
 use mathlib.Core.Path.{_≡_, refl, sym, _∙_, ap, subst}
-use mathlib.Core.Bool.{Bool, true, false}
+use mathlib.Core.Bool.{Bool, true, false, cond}
 use mathlib.Core.List.{List, [], _∷_, map}
 use lib.Dec.{eqb, ltb}
-use lib.ListN.{length, getD, set}
-use Rattle.machine.specs.Machine.{Effect}
-use Rattle.machine.specs.Machine.{quiet, swaps, logs, replies}
-use Rattle.machine.specs.Machine.{Move}
+use lib.ListN.{length, getD, set, length-set, length-map, replicate, length-replicate, List·getD-eq-default}
+use Rattle.machine.specs.Machine.{Effect, quiet, swaps, logs, replies, Move, State, alone, procAt, apply, applied, moveOf, turn, begin, act, step, after}
 use Rattle.runfile.specs.declared.Row.{Row}
 use Rattle.machine.specs.declared.Process.{Process}
 use Rattle.machine.specs.declared.Stage.the-variants.{V1}
@@ -18,23 +16,18 @@ use Rattle.machine.specs.declared.Opened.the-variants.{Nothing as Closed, Row a
 use Rattle.machine.specs.declared.Status.{Status}
 use Rattle.machine.specs.declared.Status.the-variants.{Down, Idle, Busy}
 use Rattle.word.specs.Word.{value}
-use mathlib.Core.Bool.{cond}
 use Rattle.runfile.specs.Operations.{rowNumbered, first, count}
 use native.Mathlib.Omega.{arith}
 use native.Mathlib.Nat.{add-zero, suc-add, add-suc}
-use Prim.Native.Nat.{_/_, _%_}
-use lib.ListN.{length-set, length-map, replicate, length-replicate, List·getD-eq-default}
 use lib.Seq.{getD-set-same, getD-set-other, set-out}
 use borrow.Author.Tests.{eqb-true, eqb-false, ltb-true, ltb-false}
-use Rattle.runfile.specs.Actions.{Action}
-use Rattle.runfile.specs.Actions.{step as steps, crash as crashes, wake as wakes, crashAll as crashesAll, none as idles}
-use Rattle.runfile.specs.Actions.{actionOf}
-use Rattle.machine.specs.Machine.{State, alone, procAt, apply, applied, moveOf, turn, begin, act, step, after}
+use Rattle.runfile.specs.Actions.{Action, step as steps, crash as crashes, wake as wakes, crashAll as crashesAll, none as idles, actionOf}
 use Rattle.machine.specs.declared.Turn.the-variants.{Still, Quiet}
 use Rattle.machine.specs.Steps.{atWork, stepTurn}
 use Rattle.machine.specs.Records.{rowOpen, fresh, with-status, started, crashed, waked, wokenUp}
 use Rattle.replay.specs.Replay.{Good, final}
-use Rattle.demand3.specs.Invariant.{of, Times, working, StatusOk, Local, Global, Inv}
+use Rattle.demand3.specs.Statement.{of}
+use Rattle.demand3.specs.Invariant.{Times, working, StatusOk, Local, Global, Inv}
 use Rattle.demand3.specs.Frames.{Frame, local-frame}
 use Rattle.demand3.specs.Effects.{global-effect, global-same, frame-effect, frame-quiet}
 use Rattle.demand3.specs.Own.{Own, calm, busy, own-start, own-status, own-stage, closed-open}

@@ -1,14 +1,15 @@
--- The fold over a schedule, taken apart; and that an open row is a row of the file.
+-- The fold over a schedule, taken apart; what goes on to hold of a process record whatever the bytes are; and that an open row is a row of
+-- the file.
 -- Assumes nothing.
-use Prim.Native.Nat.{ℕ, zero, suc, _+_, _<_}
+use Prim.Native.Nat.{ℕ, zero, suc, _+_, _≤_, _<_}
 use mathlib.Core.Path.{_≡_, refl, sym, _∙_, subst}
 use mathlib.Core.Bool.{Bool, true, false, cond}
 use mathlib.Core.List.{List, [], _∷_, _++_, map}
 use mathlib.Core.Logic.{_⊎_, inl, inr, ⊎-elim}
-use native.Mathlib.Nat.{add-zero, suc-add, add-suc}
+use native.Mathlib.Nat.{add-zero, zero-add, suc-add, add-suc}
 use native.Mathlib.Omega.{arith}
 use lib.Dec.{eqb, ltb}
-use lib.ListN.{length, getD, set, replicate}
+use lib.ListN.{length, getD, set, replicate, length-map, List·getD-eq-default}
 use lib.Seq.{getD-set-same, getD-set-other, set-out}
 use borrow.Author.Tests.{ltb-true, ltb-false, eqb-true, eqb-false}
 use Rattle.runfile.specs.declared.Row.{Row}
@@ -42,74 +43,133 @@ pub after-snoc : (rows : List Row) (t : ℕ) (a : List ℕ) (b : ℕ) (s : State
 unfolding after
 after-snoc rows t a b s = after-join rows t a (b ∷ []) s
 
+-- a turn of a process in the midst of work leaves it at work on the same row, or idle with none open; it begins no row
+pub data Goes (r : Process) : Process → Type 0 where
+  on : {next : Process} → next .opened ≡ r .opened → next .begun ≡ r .begun → Goes r next
+  ends : {next : Process} → next .opened ≡ Closed → next .status ≡ Idle → next .begun ≡ r .begun → Goes r next
+
+pub goes : (row : Row) (p t now : ℕ) (r : Process) (stage : Stage) (seen readAt triedAt : ℕ) (answer : Maybe) → Goes r (processOf r (decide row p t now r stage seen readAt triedAt answer))
+unfolding decide tried storing
+goes row p t now r A1 seen readAt triedAt answer = on refl refl
+goes row p t now r A2 seen readAt triedAt answer = on refl refl
+goes row p t now r A3 seen readAt triedAt answer = on refl refl
+goes row p t now r A4 seen readAt triedAt answer = go (eqb now seen)
+  where
+    go : (c : Bool) → Goes r (processOf r (cond c (Swaps (with-status (Busy A5 seen readAt t (Is True)) r) (swapped p (newOf row (value seen)) seen)) (Quiet (with-status (Busy A5 seen readAt t (Is False)) r))))
+    go true = on refl refl
+    go false = on refl refl
+goes row p t now r A5 seen readAt triedAt None = on refl refl
+goes row p t now r A5 seen readAt triedAt (Is True) = on refl refl
+goes row p t now r A5 seen readAt triedAt (Is (Value v)) = on refl refl
+goes row p t now r A5 seen readAt triedAt (Is False) = go (eqb (value seen) (row .old))
+  where
+    go : (c : Bool) → Goes r (processOf r (cond c (Loses (with-stored (Busy A6 seen readAt triedAt (Is False)) (Is False) r) readAt triedAt) (Logs (with-stored (Busy A6 seen readAt triedAt (Is False)) (Is False) r) readAt False)))
+    go true = on refl refl
+    go false = on refl refl
+goes row p t now r A6 seen readAt triedAt answer = ends refl refl refl
+goes row p t now r V1 seen readAt triedAt answer = on refl refl
+goes row p t now r V2 seen readAt triedAt answer = on refl refl
+goes row p t now r V3 seen readAt triedAt answer = on refl refl
+goes row p t now r V4 seen readAt triedAt answer = on refl refl
+goes row p t now r V5 seen readAt triedAt answer = ends refl refl refl
+goes row p t now r V6 seen readAt triedAt answer = ends refl refl refl
+
+-- What a step of process p makes of its record: nothing; a row begun; work gone on with.
+pub data Turned (rows : List Row) (p : ℕ) (r : Process) : Process → Type 0 where
+  still : Turned rows p r r
+  begins : r .begun < count rows p → Turned rows p r (started (first rows p + r .begun) r)
+  works : {next : Process} → (k : ℕ) → r .opened ≡ Open k → Goes r next → Turned rows p r next
+
+pub turned : (rows : List Row) (p t : ℕ) (words : List ℕ) (log : List Entry) (r : Process) (status : Status) → Turned rows p r (turn rows p t words log r status .process)
+unfolding turn stepTurn
+turned rows p t words log r status = go status
+  where
+    start : (c : Bool) → ltb (r .begun) (count rows p) ≡ c → Turned rows p r (processOf r (cond c (Quiet (started (first rows p + r .begun) r)) Still))
+    start true l = begins (ltb-true (r .begun) (count rows p) l)
+    start false l = still
+
+    work : (o : Opened) → r .opened ≡ o → (row : Row) (now : ℕ) (stage : Stage) (seen readAt triedAt : ℕ) (answer : Maybe) → Turned rows p r (processOf r (atWork row p t now r o stage seen readAt triedAt answer))
+    work Closed q row now stage seen readAt triedAt answer = still
+    work (Open k) q row now stage seen readAt triedAt answer = works k q (goes row p t now r stage seen readAt triedAt answer)
+
+    go : (status : Status) → Turned rows p r (processOf r (stepTurn (rowNumbered rows (rowOpen (r .opened))) p t (getD words (rowNumbered rows (rowOpen (r .opened)) .word) 0) (first rows p) (count rows p) r status))
+    go Down = still
+    go Idle = start (ltb (r .begun) (count rows p)) refl
+    go (Busy stage seen readAt triedAt answer) = work (r .opened) refl _ _ stage seen readAt triedAt answer
+
+-- the record of q after process p has been given another
+record-set : (l : List Process) (p q : ℕ) (r : Process) → ((q ≡ p) × (getD (set l p r) q fresh ≡ r)) ⊎ (getD (set l p r) q fresh ≡ getD l q fresh)
+record-set l p q r = go (eqb q p) refl (ltb p (length l)) refl
+  where
+    go : (c : Bool) → eqb q p ≡ c → (d : Bool) → ltb p (length l) ≡ d → ((q ≡ p) × (getD (set l p r) q fresh ≡ r)) ⊎ (getD (set l p r) q fresh ≡ getD l q fresh)
+    go false x d y = inr (getD-set-other l p q r fresh (eqb-false q p x))
+    go true x true y = inl (eqb-true q p x, rw (eqb-true q p x) (getD-set-same l p r fresh (ltb-true p (length l) y)))
+    go true x false y = inr (rw (set-out l p r (ltb-false p (length l) y)))
+
+-- What holds of each process and its record goes on to hold, if steps, crashes and wakes keep it.
+module _ (rows : List Row) (Q : ℕ → Process → Type 0)
+    (steps-keep : (p : ℕ) (r next : Process) → Q p r → Turned rows p r next → Q p next)
+    (crashes-keep : (p : ℕ) (r : Process) → Q p r → Q p (crashed r))
+    (wakes-keep : (p : ℕ) (r : Process) → Q p r → Q p (waked r (r .status))) where
+  Each : State → Type 0
+  Each s = (q : ℕ) → Q q (procAt q s)
+
+  each-set : (p : ℕ) (r : Process) (s : State) → Each s → Q p r → (q : ℕ) → Q q (getD (set (s .processes) p r) q fresh)
+  unfolding Each procAt
+  each-set p r s h i q =
+      ⊎-elim (λ e. subst (Q q) (sym (e .1)) (subst (λ p. Q p r) (sym (e .0)) i)) (λ e. subst (Q q) (sym e) (h q)) (record-set (s .processes) p q r)
+
+  each-down : (l : List Process) (at : ℕ) → ((q : ℕ) → q < length l → Q (at + q) (getD l q fresh)) → (q : ℕ) → q < length l → Q (at + q) (getD (map crashed l) q fresh)
+  each-down [] at h q g = absurd (omega arith)
+  each-down (r ∷ l) at h zero g = crashes-keep (at + 0) r (h zero g)
+  each-down (r ∷ l) at h (suc q) g =
+      let z : at + suc q ≡ suc at + q = omega arith in
+      subst (λ n. Q n (getD (map crashed l) q fresh)) (sym z)
+      (each-down l (suc at) (λ j k. let y : suc at + j ≡ at + suc j = omega arith in subst (λ n. Q n (getD l j fresh)) (sym y) (h (suc j) (omega arith))) q (omega arith))
+
+  each-act : (t : ℕ) (a : Action) (p : ℕ) (s : State) → Each s → Each (act rows t a p s)
+  unfolding act applied apply Each procAt
+  each-act t steps p s h = each-set p _ s h (steps-keep p (procAt p s) _ (h p) (turned rows p t (s .words) (s .log) (procAt p s) (procAt p s .status)))
+  each-act t crashes p s h = each-set p _ s h (crashes-keep p (procAt p s) (h p))
+  each-act t wakes p s h = each-set p _ s h (wakes-keep p (procAt p s) (h p))
+  each-act t crashesAll p s h = λ q. go q (ltb q (length (s .processes))) refl
+    where
+      go : (q : ℕ) (c : Bool) → ltb q (length (s .processes)) ≡ c → Q q (getD (map crashed (s .processes)) q fresh)
+      go q true e = subst (λ n. Q n (getD (map crashed (s .processes)) q fresh)) (zero-add q) (each-down (s .processes) 0 (λ j g. subst (λ n. Q n (getD (s .processes) j fresh)) (sym (zero-add j)) (h j)) q (ltb-true q (length (s .processes)) e))
+      go q false e =
+          let g : length (s .processes) ≤ q = ltb-false q (length (s .processes)) e in
+          let same : getD (map crashed (s .processes)) q fresh ≡ getD (s .processes) q fresh =
+          List·getD-eq-default (map crashed (s .processes)) fresh (rw (length-map (s .processes) crashed) g) ∙ sym (List·getD-eq-default (s .processes) fresh g) in
+          subst (Q q) (sym same) (h q)
+  each-act t idles p s h = h
+
+  pub each-after : (t : ℕ) (bytes : List ℕ) (s : State) → ((q : ℕ) → Q q (procAt q s)) → (q : ℕ) → Q q (procAt q (after rows t bytes s))
+  unfolding after step Each
+  each-after t [] s h = h
+  each-after t (byte ∷ bytes) s h = each-after (suc t) bytes (step rows t byte s) (each-act t (action byte) (named byte) s h)
+
 -- an open row is a row of the file, and in the midst of work a row is open
 pub record Sane (rows : List Row) (r : Process) : Type 0 where
   pub in-file : (k : ℕ) → r .opened ≡ Open k → k < length rows
   pub works : WorkOpen (r .status) (r .opened)
-
--- a turn of a process in the midst of work leaves it at work on the same row, or idle with none open
-data Goes (r : Process) : Process → Type 0 where
-  on : {next : Process} → next .opened ≡ r .opened → Goes r next
-  ends : {next : Process} → next .opened ≡ Closed → next .status ≡ Idle → Goes r next
-
-goes : (row : Row) (p t now : ℕ) (r : Process) (stage : Stage) (seen readAt triedAt : ℕ) (answer : Maybe) → Goes r (processOf r (decide row p t now r stage seen readAt triedAt answer))
-unfolding decide tried storing
-goes row p t now r A1 seen readAt triedAt answer = on refl
-goes row p t now r A2 seen readAt triedAt answer = on refl
-goes row p t now r A3 seen readAt triedAt answer = on refl
-goes row p t now r A4 seen readAt triedAt answer = go (eqb now seen)
-  where
-    go : (c : Bool) → Goes r (processOf r (cond c (Swaps (with-status (Busy A5 seen readAt t (Is True)) r) (swapped p (newOf row (value seen)) seen)) (Quiet (with-status (Busy A5 seen readAt t (Is False)) r))))
-    go true = on refl
-    go false = on refl
-goes row p t now r A5 seen readAt triedAt None = on refl
-goes row p t now r A5 seen readAt triedAt (Is True) = on refl
-goes row p t now r A5 seen readAt triedAt (Is (Value v)) = on refl
-goes row p t now r A5 seen readAt triedAt (Is False) = go (eqb (value seen) (row .old))
-  where
-    go : (c : Bool) → Goes r (processOf r (cond c (Loses (with-stored (Busy A6 seen readAt triedAt (Is False)) (Is False) r) readAt triedAt) (Logs (with-stored (Busy A6 seen readAt triedAt (Is False)) (Is False) r) readAt False)))
-    go true = on refl
-    go false = on refl
-goes row p t now r A6 seen readAt triedAt answer = ends refl refl
-goes row p t now r V1 seen readAt triedAt answer = on refl
-goes row p t now r V2 seen readAt triedAt answer = on refl
-goes row p t now r V3 seen readAt triedAt answer = on refl
-goes row p t now r V4 seen readAt triedAt answer = on refl
-goes row p t now r V5 seen readAt triedAt answer = ends refl refl
-goes row p t now r V6 seen readAt triedAt answer = ends refl refl
 
 open-any : (status : Status) (opened : Opened) (k : ℕ) → opened ≡ Open k → WorkOpen status opened
 open-any Down opened k e = tt
 open-any Idle opened k e = tt
 open-any (Busy stage seen readAt triedAt answer) opened k e = (k, e)
 
-closed-open : {A : Type 0} {k : ℕ} → Closed ≡ Open k → A
+pub closed-open : {A : Type 0} {k : ℕ} → Closed ≡ Open k → A
 closed-open e = absurd (let z : _≡_ {A = ℕ} 0 1 = cc in omega arith)
 
 module _ (rows : List Row) where
-  sane-goes : (r next : Process) (k : ℕ) → Sane rows r → r .opened ≡ Open k → Goes r next → Sane rows next
-  sane-goes r next k h q (on e) = record { in-file = λ j x. h .in-file j (sym e ∙ x); works = open-any (next .status) (next .opened) k (e ∙ q) }
-  sane-goes r next k h q (ends e i) = record { in-file = λ j x. closed-open (sym e ∙ x); works = subst (λ st. WorkOpen st (next .opened)) (sym i) tt }
-
-  sane-turn : (p t : ℕ) (words : List ℕ) (log : List Entry) (r : Process) (status : Status) → Sane rows r → Sane rows (turn rows p t words log r status .process)
-  unfolding turn stepTurn
-  sane-turn p t words log r status h = go status
-    where
-      start : (c : Bool) → ltb (r .begun) (count rows p) ≡ c → Sane rows (processOf r (cond c (Quiet (started (first rows p + r .begun) r)) Still))
-      start true l = record {
-        in-file = λ j x. (let same : first rows p + r .begun ≡ j = cc in let a = ltb-true (r .begun) (count rows p) l in let f = last-fits rows p in omega arith);
-        works = (first rows p + r .begun, refl);
-      }
-      start false l = h
-
-      work : (o : Opened) → r .opened ≡ o → (row : Row) (now : ℕ) (stage : Stage) (seen readAt triedAt : ℕ) (answer : Maybe) → Sane rows (processOf r (atWork row p t now r o stage seen readAt triedAt answer))
-      work Closed q row now stage seen readAt triedAt answer = h
-      work (Open k) q row now stage seen readAt triedAt answer = sane-goes r _ k h q (goes row p t now r stage seen readAt triedAt answer)
-
-      go : (status : Status) → Sane rows (processOf r (stepTurn (rowNumbered rows (rowOpen (r .opened))) p t (getD words (rowNumbered rows (rowOpen (r .opened)) .word) 0) (first rows p) (count rows p) r status))
-      go Down = h
-      go Idle = start (ltb (r .begun) (count rows p)) refl
-      go (Busy stage seen readAt triedAt answer) = work (r .opened) refl _ _ stage seen readAt triedAt answer
+  sane-turned : (p : ℕ) (r next : Process) → Sane rows r → Turned rows p r next → Sane rows next
+  sane-turned p r next h still = h
+  sane-turned p r next h (begins l) = record {
+    in-file = λ j x. (let same : first rows p + r .begun ≡ j = cc in let f = last-fits rows p in omega arith);
+    works = (first rows p + r .begun, refl);
+  }
+  sane-turned p r next h (works k q (on e b)) = record { in-file = λ j x. h .in-file j (sym e ∙ x); works = open-any (next .status) (next .opened) k (e ∙ q) }
+  sane-turned p r next h (works k q (ends e i b)) = record { in-file = λ j x. closed-open (sym e ∙ x); works = subst (λ st. WorkOpen st (next .opened)) (sym i) tt }
 
   sane-waked : (r : Process) (status : Status) → Sane rows r → Sane rows (waked r status)
   sane-waked r Down h = record { in-file = h .in-file; works = go (r .opened) refl }
@@ -120,40 +180,6 @@ module _ (rows : List Row) where
   sane-waked r Idle h = h
   sane-waked r (Busy stage seen readAt triedAt answer) h = h
 
-  -- the record of q after process p has been given another
-  record-set : (l : List Process) (p q : ℕ) (r : Process) → (getD (set l p r) q fresh ≡ r) ⊎ (getD (set l p r) q fresh ≡ getD l q fresh)
-  record-set l p q r = go (eqb q p) refl (ltb p (length l)) refl
-    where
-      go : (c : Bool) → eqb q p ≡ c → (d : Bool) → ltb p (length l) ≡ d → (getD (set l p r) q fresh ≡ r) ⊎ (getD (set l p r) q fresh ≡ getD l q fresh)
-      go false x d y = inr (getD-set-other l p q r fresh (eqb-false q p x))
-      go true x true y = inl (rw (eqb-true q p x) (getD-set-same l p r fresh (ltb-true p (length l) y)))
-      go true x false y = inr (rw (set-out l p r (ltb-false p (length l) y)))
-
-  AllSane : State → Type 0
-  AllSane s = (q : ℕ) → Sane rows (procAt q s)
-
-  sane-set : (p : ℕ) (r : Process) (s : State) → AllSane s → Sane rows r → (q : ℕ) → Sane rows (getD (set (s .processes) p r) q fresh)
-  unfolding AllSane procAt
-  sane-set p r s h i q = ⊎-elim (λ e. subst (Sane rows) (sym e) i) (λ e. subst (Sane rows) (sym e) (h q)) (record-set (s .processes) p q r)
-
-  sane-down : (l : List Process) → ((q : ℕ) → Sane rows (getD l q fresh)) → (q : ℕ) → Sane rows (getD (map crashed l) q fresh)
-  sane-down [] h q = h q
-  sane-down (r ∷ l) h zero = record { in-file = h zero .in-file; works = tt }
-  sane-down (r ∷ l) h (suc q) = sane-down l (λ j. h (suc j)) q
-
-  sane-act : (t : ℕ) (a : Action) (p : ℕ) (s : State) → AllSane s → AllSane (act rows t a p s)
-  unfolding act applied apply AllSane procAt
-  sane-act t steps p s h = sane-set p _ s h (sane-turn p t (s .words) (s .log) (procAt p s) (procAt p s .status) (h p))
-  sane-act t crashes p s h = sane-set p _ s h (record { in-file = h p .in-file; works = tt })
-  sane-act t wakes p s h = sane-set p _ s h (sane-waked (procAt p s) (procAt p s .status) (h p))
-  sane-act t crashesAll p s h = sane-down (s .processes) h
-  sane-act t idles p s h = h
-
-  sane-after : (t : ℕ) (bytes : List ℕ) (s : State) → AllSane s → AllSane (after rows t bytes s)
-  unfolding after step
-  sane-after t [] s h = h
-  sane-after t (byte ∷ bytes) s h = sane-after (suc t) bytes (step rows t byte s) (sane-act t (action byte) (named byte) s h)
-
   sane-fresh : (P q : ℕ) → Sane rows (getD (replicate P fresh) q fresh)
   sane-fresh zero q = record { in-file = λ k e. closed-open e; works = tt }
   sane-fresh (suc P) zero = record { in-file = λ k e. closed-open e; works = tt }
@@ -161,5 +187,6 @@ module _ (rows : List Row) where
 
   -- "no index goes wrong": whatever the schedule, an open row is a row of the file, and in the midst of work a row is open
   pub sane : (P : ℕ) (words bytes : List ℕ) (q : ℕ) → Sane rows (procAt q (after rows 0 bytes (begin P words)))
-  unfolding AllSane begin procAt
-  sane P words bytes q = sane-after 0 bytes (begin P words) (sane-fresh P) q
+  unfolding begin procAt
+  sane P words bytes q =
+      each-after rows (λ p r. Sane rows r) sane-turned (λ p r h. record { in-file = h .in-file; works = tt }) (λ p r h. sane-waked r (r .status) h) 0 bytes (begin P words) (sane-fresh P) q

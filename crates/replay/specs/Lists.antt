@@ -1,9 +1,8 @@
 -- Lists: what holds of all entries, the entries that pass a test (a filter), and the first of them. By induction on the list.
 -- Assumes nothing.
 use mathlib.Core.Path.{_≡_, refl, sym, _∙_, ap}
-use mathlib.Core.Bool.{Bool, true, false}
+use mathlib.Core.Bool.{Bool, true, false, cond}
 use mathlib.Core.List.{List, [], _∷_, _++_}
-use mathlib.Core.Bool.{cond}
 
 module _ {A : Type 0} where
   abbrev pub All : (A → Type 0) → List A → Type 0

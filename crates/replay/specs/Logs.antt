@@ -3,14 +3,13 @@
 -- Assumes nothing.
 use Prim.Native.Nat.{ℕ, zero, suc, _≤_, _<_}
 use mathlib.Core.Path.{_≡_, refl, sym, _∙_, ap}
-use mathlib.Core.Bool.{Bool, true, false, not}
+use mathlib.Core.Bool.{Bool, true, false, not, cond}
 use mathlib.Core.List.{List, [], _∷_, _++_}
 use native.Mathlib.Omega.{arith}
 use lib.Dec.{leb}
 use lib.ListN.{take, drop, take-append-drop}
 use borrow.Author.Tests.{le-leb, lt-leb, leb-true, leb-false}
 use Rattle.rows.specs.declared.Entry.{Entry}
-use mathlib.Core.Bool.{cond}
 use Rattle.rows.specs.Entries.{said, isTrue}
 use Rattle.rows.specs.Log.{onePast, place, insert}
 use Rattle.replay.specs.Lists.{All, all-left, all-right, all-map, all-put, keep, keep-join, keep-all, keep-none, keep-passes}

@@ -4,7 +4,7 @@
 -- Assumes nothing.
 use Prim.Native.Nat.{ℕ, zero, suc, _^_, _≤_, _<_}
 use mathlib.Core.Path.{_≡_, refl, sym, _∙_, ap, ap₂, subst}
-use mathlib.Core.Bool.{Bool, true, false}
+use mathlib.Core.Bool.{Bool, true, false, cond, _&&_}
 use mathlib.Core.List.{List, [], _∷_, _++_, append-nil}
 use native.Mathlib.Omega.{arith}
 use lib.Dec.{eqb, ltb}
@@ -14,19 +14,12 @@ use borrow.Author.Tests.{eq-eqb, eqb-true, ltb-true, lt-ltb}
 use Rattle.rows.specs.declared.Entry.{Entry}
 use Rattle.runfile.specs.declared.Row.{Row}
 use Rattle.word.specs.Word.{width}
-use mathlib.Core.Bool.{cond, _&&_}
 use Rattle.runfile.specs.Operations.{rowNumbered, names, reads, newOf}
-use Rattle.rows.specs.Entries.{Said, said, isTrue}
+use Rattle.rows.specs.Entries.{said, isTrue}
 use Rattle.rows.specs.Log.{isSwap, firstSwap}
+use Rattle.replay.specs.Plain.{answerOf, leaves, Replayed}
 use Rattle.replay.specs.Lists.{All, all-left, all-map, all-both, keep, keep-join, keep-keeps, keep-put-no, keep-put-yes, Found, keep-found}
 use Rattle.replay.specs.Logs.{isLate, isEarly, early-test, early-test-no, Ordered, Sorted, sorted-left, sorted-before, sorted-behind, early, late, early-all, early-none, early-low, late-high, early-join, early-late, Put}
-
--- what the row answers where its word has the value v
-unfoldable pub answerOf : Row → ℕ → Said
-answerOf row v =
-    cond (reads row)
-    (record { verdict = 3; value = v })
-    (cond (eqb v (row .old)) (record { verdict = 1; value = 0 }) (record { verdict = 0; value = 0 }))
 
 -- a row that passed the refusals, over W words
 pub record Good (W : ℕ) (row : Row) : Type 0 where
@@ -56,6 +49,16 @@ module _ (rows : List Row) where
   abbrev pub Right : List ℕ → List Entry → Type 0
   Right vs [] = Unit {0}
   Right vs (e ∷ l) = RightAt vs e × Right (moved e vs) l
+
+  -- a log that is right is replayed: what an entry says it has done is what its row does
+  leaves-moved : (e : Entry) (vs : List ℕ) → RightAt vs e → moved e vs ≡ leaves (rowNumbered rows (e .row)) vs
+  unfolding moved leaves
+  leaves-moved e vs h = ap (λ d. cond (isTrue d) (written e vs) vs) h
+
+  pub replayed : (vs : List ℕ) (log : List Entry) (finals : List ℕ) → Right vs log → final vs log ≡ finals → Replayed rows vs log finals
+  unfolding final
+  replayed vs [] finals r f = f
+  replayed vs (e ∷ log) finals r f = (r .0, subst (λ vs. Replayed rows vs log finals) (leaves-moved e vs (r .0)) (replayed (moved e vs) log finals (r .1) f))
 
   pub final-join : (vs : List ℕ) (a b : List Entry) → final vs (a ++ b) ≡ final (final vs a) b
   unfolding final

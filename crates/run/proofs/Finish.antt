@@ -19,7 +19,7 @@ use Rattle.machine.specs.Machine.{State, Effect, quiet, swaps, logs, replies, w
 use Rattle.run.specs.declared.Outcome.the-variants.{Ran}
 use Rattle.run.specs.Buffers.{Runnable, Holds}
 use Rattle.run.specs.Run.{endOf, roomOf, EndsAs}
-use Rattle.run.proofs.Start.{length-wordsFrom}
+use Rattle.runfile.specs.OperationLaws.{length-wordsFrom}
 use Rattle.run.proofs.Cut.{cut, after-begin}
 
 -- no byte changes how many words there are
@@ -72,12 +72,6 @@ rows-part f start at zero = refl
 rows-part f start at (suc n) = rw (row-part f start at, rows-part f start (at + 8) n, ← (add-assoc start at 8))
 
 module _ (h : Header) (f words log answers : List ℕ) (l : Lawful h f (roomOf words log answers)) where
-  abbrev table : List ℕ
-  table = drop (rowsStart h) f
-
-  abbrev loaded : List ℕ
-  loaded = wordsFrom f (h .words)
-
   -- what the run asks
   pub runnable : Runnable (drop (rowsStart h) f) (h .rows) (scheduleIn h f) (wordsFrom f (h .words)) log answers
   unfolding rowAt

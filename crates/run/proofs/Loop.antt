@@ -85,9 +85,6 @@ acts-open rows row p t now f c r h a = go (r .status) (h .works) a
 
 -- the row as it is read from the table is the row of that number
 module _ (table : List ℕ) (n : ℕ) where
-  abbrev rows : List Row
-  rows = rowsFrom table 0 n
-
   pub row-is : (k : ℕ) → k < n → rowAt table (k * 8) ≡ rowNumbered (rowsFrom table 0 n) k
   row-is k h = sym (rowNumbered-rowsFrom table 0 n k h ∙ ap (rowAt table) (zero-add (k * 8)))
 
@@ -97,9 +94,6 @@ module _ (table : List ℕ) (n : ℕ) where
   unfolding stepTurn
   turn-is p t f c words r h = go (r .status) (h .works)
     where
-      k : ℕ
-      k = rowOpen (r .opened)
-
       go : (status : Status) → WorkOpen status (r .opened)
           → stepTurn (rowAt table (rowOpen (r .opened) * 8)) p t (getD words (rowAt table (rowOpen (r .opened) * 8) .word) 0) f c r status
           ≡ stepTurn (rowNumbered (rowsFrom table 0 n) (rowOpen (r .opened))) p t (getD words (rowNumbered (rowsFrom table 0 n) (rowOpen (r .opened)) .word) 0) f c r status

@@ -1,18 +1,15 @@
 -- The start words, written one after the other: before turn i the first i stand in front.
 -- Assumes nothing.
-use mathlib.Core.Path.{_≡_, refl, sym, ap, _∙_}
+use mathlib.Core.Path.{_≡_, sym, _∙_}
 use mathlib.Core.List.{List, [], _∷_, append-assoc, append-nil}
-use Prim.Native.Nat.{ℕ, zero, suc, _+_, _<_}
+use Prim.Native.Nat.{ℕ, suc, _+_, _<_}
 use native.Mathlib.Numerals.{add-one}
-use lib.ListN.{length, set, getD, drop, length-append}
+use lib.ListN.{length, set, getD, drop}
 use lib.Seq.{drop-cons, set-at, drop-length}
 use Rattle.rows.specs.Buffers.{infront}
 use Rattle.runfile.specs.Layout.{wordIn}
 use Rattle.runfile.specs.Operations.{wordsFrom}
-
-pub length-wordsFrom : (f : List ℕ) (n : ℕ) → length (wordsFrom f n) ≡ n
-length-wordsFrom f zero = refl
-length-wordsFrom f (suc n) = length-append (wordsFrom f n) (wordIn f n ∷ []) ∙ (ap (λ (k : ℕ). k + 1) (length-wordsFrom f n) ∙ add-one n)
+use Rattle.runfile.specs.OperationLaws.{length-wordsFrom}
 
 pub load-turn : (f xs words : List ℕ) (i x : ℕ) → i < length xs → words ≡ infront (wordsFrom f i) xs → x ≡ wordIn f i → set words i x ≡ infront (wordsFrom f (i + 1)) xs
 unfolding infront

@@ -10,7 +10,6 @@ use lib.Dec.{ltb}
 use lib.ListN.{length, take}
 use lib.Seq.{getD-take, length-take-le, take-all}
 use borrow.Author.Tests.{ltb-true, ltb-false, ne-eqb, le-ltb}
-use Rattle.runfile.specs.declared.Header.{Header}
 use Rattle.runfile.specs.declared.Room.{Room}
 use Rattle.runfile.specs.declared.Refusal.{Refusal}
 use Rattle.runfile.specs.declared.Refusal.the-variants as refusal
@@ -33,45 +32,39 @@ abbrev behind : List Refusal
 behind = bodyChecks ++ roomChecks
 
 module _ (f : List ℕ) (room : Room) where
-  abbrev g : List ℕ
-  g = take 5196 f
-
-  same-header : headerIn (take 5196 f) ≡ headerIn f
+  same-header : headerIn (take enough f) ≡ headerIn f
   unfolding headerIn u16At
   same-header =
       rw (
-        getD-take 5196 f 3 0 (omega arith),
-        getD-take 5196 f 4 0 (omega arith),
-        getD-take 5196 f 5 0 (omega arith),
-        getD-take 5196 f 6 0 (omega arith),
-        getD-take 5196 f 7 0 (omega arith),
-        getD-take 5196 f 8 0 (omega arith),
-        getD-take 5196 f 9 0 (omega arith),
-        getD-take 5196 f 10 0 (omega arith),
+        getD-take enough f 3 0 (omega arith),
+        getD-take enough f 4 0 (omega arith),
+        getD-take enough f 5 0 (omega arith),
+        getD-take enough f 6 0 (omega arith),
+        getD-take enough f 7 0 (omega arith),
+        getD-take enough f 8 0 (omega arith),
+        getD-take enough f 9 0 (omega arith),
+        getD-take enough f 10 0 (omega arith),
       )
 
-  same-mark : marked (take 5196 f) ≡ marked f
+  same-mark : marked (take enough f) ≡ marked f
   unfolding marked
-  same-mark = rw (getD-take 5196 f 0 0 (omega arith), getD-take 5196 f 1 0 (omega arith), getD-take 5196 f 2 0 (omega arith))
+  same-mark = rw (getD-take enough f 0 0 (omega arith), getD-take enough f 1 0 (omega arith), getD-take enough f 2 0 (omega arith))
 
-  module _ (long : 5196 < length f) where
-    size : length (take 5196 f) ≡ 5196
-    size = length-take-le 5196 f (omega arith)
-
-    abbrev h : Header
-    h = headerIn f
+  module _ (long : enough < length f) where
+    size : length (take enough f) ≡ enough
+    size = length-take-le enough f (omega arith)
 
     -- refusals 1 to 7 find the same
-    same-front : firstOf (found (headerIn f) (take 5196 f) room) front (headerIn f) ≡ firstOf (found (headerIn f) f room) front (headerIn f)
-    same-front = rw (le-ltb (length (take 5196 f)) 11 (let s = size in omega arith), le-ltb (length f) 11 (omega arith), same-mark)
+    same-front : firstOf (found (headerIn f) (take enough f) room) front (headerIn f) ≡ firstOf (found (headerIn f) f room) front (headerIn f)
+    same-front = rw (le-ltb (length (take enough f)) 11 (let s = size in omega arith), le-ltb (length f) 11 (omega arith), same-mark)
 
     wrong-length : (x : List ℕ) → (length x ≡ lengthGiven (headerIn f) → ⊥) → firstOf (found (headerIn f) x room) (refusal.Length ∷ behind) (headerIn f) ≡ Refused refusal.Length 0
     wrong-length x n = rw (ne-eqb (length x) (lengthGiven (headerIn f)) n)
 
     answer : (c : Checked) → firstOf (found (headerIn f) f room) front (headerIn f) ≡ c
-        → firstOf (found (headerIn f) (take 5196 f) room) (front ++ (refusal.Length ∷ behind)) (headerIn f) ≡ firstOf (found (headerIn f) f room) (front ++ (refusal.Length ∷ behind)) (headerIn f)
+        → firstOf (found (headerIn f) (take enough f) room) (front ++ (refusal.Length ∷ behind)) (headerIn f) ≡ firstOf (found (headerIn f) f room) (front ++ (refusal.Length ∷ behind)) (headerIn f)
     answer (Refused why at) e =
-        stops (found (headerIn f) (take 5196 f) room) (headerIn f) front (refusal.Length ∷ behind) why at (same-front ∙ e)
+        stops (found (headerIn f) (take enough f) room) (headerIn f) front (refusal.Length ∷ behind) why at (same-front ∙ e)
         ∙ sym (stops (found (headerIn f) f room) (headerIn f) front (refusal.Length ∷ behind) why at e)
     answer (Accepted x) e =
         let c = accepts (found (headerIn f) f room) (headerIn f) front x e .1 in
@@ -79,15 +72,15 @@ module _ (f : List ℕ) (room : Room) where
         let w = in-range (headerIn f .words) (whole-clear (outOfRange (headerIn f .words)) (r .1 .0)) .1 in
         let n = ltb-false 512 (headerIn f .rows) (whole-clear (ltb 512 (headerIn f .rows)) (r .1 .1 .0)) in
         let s = ltb-false 1024 (headerIn f .steps) (whole-clear (ltb 1024 (headerIn f .steps)) (r .1 .1 .1 .0)) in
-        passes (found (headerIn f) (take 5196 f) room) (headerIn f) front (refusal.Length ∷ behind) x (same-front ∙ e)
-        ∙ wrong-length (take 5196 f) (λ q. (let z = size in omega arith))
+        passes (found (headerIn f) (take enough f) room) (headerIn f) front (refusal.Length ∷ behind) x (same-front ∙ e)
+        ∙ wrong-length (take enough f) (λ q. (let z = size in omega arith))
         ∙ sym (passes (found (headerIn f) f room) (headerIn f) front (refusal.Length ∷ behind) x e ∙ wrong-length f (λ q. omega arith))
 
   -- the first 5,196 bytes decide
-  pub decided : refusalOf (take 5196 f) room ≡ refusalOf f room
+  pub decided : refusalOf (take enough f) room ≡ refusalOf f room
   unfolding refusalOf
-  decided = go (ltb 5196 (length f)) refl
+  decided = go (ltb enough (length f)) refl
     where
-      go : (c : Bool) → ltb 5196 (length f) ≡ c → firstOf (found (headerIn (take 5196 f)) (take 5196 f) room) (front ++ (refusal.Length ∷ behind)) (headerIn (take 5196 f)) ≡ firstOf (found (headerIn f) f room) (front ++ (refusal.Length ∷ behind)) (headerIn f)
-      go true e = rw same-header (answer (ltb-true 5196 (length f) e) _ refl)
-      go false e = rw (take-all 5196 f (ltb-false 5196 (length f) e))
+      go : (c : Bool) → ltb enough (length f) ≡ c → firstOf (found (headerIn (take enough f)) (take enough f) room) (front ++ (refusal.Length ∷ behind)) (headerIn (take enough f)) ≡ firstOf (found (headerIn f) f room) (front ++ (refusal.Length ∷ behind)) (headerIn f)
+      go true e = rw same-header (answer (ltb-true enough (length f) e) _ refl)
+      go false e = rw (take-all enough f (ltb-false enough (length f) e))

@@ -1,15 +1,21 @@
--- Laws of the rows as a list: row k stands at its place, one row more at the end, and a process's rows are within the file.
+-- Laws of the start words and of the rows as lists: how many there are, row k stands at its place, one row more at the end, and a process's
+-- rows are within the file.
 -- Assumes nothing.
 use Prim.Native.Nat.{ℕ, zero, suc, _+_, _*_, _≤_, _<_}
 use mathlib.Core.Path.{_≡_, refl, _∙_, ap}
 use mathlib.Core.Bool.{Bool, true, false, cond}
 use mathlib.Core.List.{List, [], _∷_, _++_}
 use native.Mathlib.Omega.{arith}
+use native.Mathlib.Numerals.{add-one}
 use lib.Dec.{eqb, ltb}
-use lib.ListN.{getD, length}
+use lib.ListN.{getD, length, length-append}
 use Rattle.runfile.specs.declared.Row.{Row}
-use Rattle.runfile.specs.Layout.{rowAt}
-use Rattle.runfile.specs.Operations.{rowsFrom, blank, rowNumbered, first, count, names}
+use Rattle.runfile.specs.Layout.{rowAt, wordIn}
+use Rattle.runfile.specs.Operations.{wordsFrom, rowsFrom, blank, rowNumbered, first, count, names}
+
+pub length-wordsFrom : (f : List ℕ) (n : ℕ) → length (wordsFrom f n) ≡ n
+length-wordsFrom f zero = refl
+length-wordsFrom f (suc n) = length-append (wordsFrom f n) (wordIn f n ∷ []) ∙ (ap (λ (k : ℕ). k + 1) (length-wordsFrom f n) ∙ add-one n)
 
 next : (at k : ℕ) → at + 8 + k * 8 ≡ at + suc k * 8
 next at k = omega arith

@@ -1,0 +1,118 @@
+-- Detectability, said plainly, of whatever meets demand 3; and the mission's capture, for every schedule: of workers that all move a word from
+-- the same old to the same new, at most one is told true, and it is one that made the move itself. For by the replay the first true leaves
+-- new, and new is not old.
+-- Assumes nothing.
+use Prim.Native.Nat.{ℕ, _+_, _≤_, _<_}
+use mathlib.Core.Path.{_≡_, refl, sym, _∙_, ap}
+use mathlib.Core.Bool.{Bool, true, false, cond}
+use mathlib.Core.List.{List, [], _∷_, map, append-nil}
+use native.Mathlib.Omega.{arith}
+use lib.Dec.{eqb}
+use lib.ListN.{length, getD, set}
+use lib.Seq.{getD-set-same}
+use borrow.Author.Tests.{eqb-true}
+use Rattle.runfile.specs.declared.Row.{Row}
+use Rattle.runfile.specs.Operations.{rowNumbered, newOf}
+use Rattle.word.specs.Word.{value}
+use Rattle.rows.specs.declared.Entry.{Entry}
+use Rattle.rows.specs.Entries.{said, isTrue}
+use Rattle.machine.specs.declared.Answer.the-variants.{True}
+use Rattle.machine.specs.declared.Maybe.the-variants.{Nothing as None, Is}
+use Rattle.machine.specs.Machine.{begin}
+use Rattle.replay.specs.Plain.{answerOf, leaves, Replayed}
+use Rattle.replay.specs.Lists.{All}
+use Rattle.replay.specs.Replay.{answer-true}
+use Rattle.demand3.specs.Statement.{of, counts, swapCount, swapsTold, swaps, swapsWith, Told, Demand3}
+use Rattle.demand3.specs.Swaps.{trues, truesOf, logged-count}
+
+module _ (rows : List Row) (P : ℕ) (words schedule : List ℕ) (log answers : List Entry) (k : ℕ) (t : Told rows P words schedule k log answers) where
+  swapped-as-told : swaps rows P words schedule k ≡ swapsTold (t .answer)
+  swapped-as-told = ap (λ bytes. swapCount rows k 0 bytes (begin P words)) (sym (append-nil schedule)) ∙ t .swapped []
+
+  -- told true: it swapped exactly once
+  pub told-true : t .answer ≡ Is True → swaps rows P words schedule k ≡ 1
+  told-true e = swapped-as-told ∙ ap swapsTold e
+
+  -- told fail: it never swapped, and never will
+  pub told-fail : t .answer ≡ None → (more : List ℕ) → swapsWith rows P words schedule k more ≡ 0
+  told-fail e more = t .swapped more ∙ ap swapsTold e
+
+  -- who has not swapped is not told true, whoever else has put in the same value
+  pub not-its-own : swaps rows P words schedule k ≡ 0 → t .answer ≡ Is True → ⊥
+  not-its-own z e = let one : swaps rows P words schedule k ≡ 1 = told-true e in omega arith
+
+-- trues of two rows are trues of the log
+two-rows : (k j : ℕ) → (k ≡ j → ⊥) → (log : List Entry) → truesOf k log + truesOf j log ≤ trues log
+unfolding trues truesOf of
+two-rows k j n [] = omega arith
+two-rows k j n (e ∷ log) = go (eqb (e .row) k) (eqb (e .row) j) refl refl (two-rows k j n log)
+  where
+    go : (c d : Bool) → eqb (e .row) k ≡ c → eqb (e .row) j ≡ d → truesOf k log + truesOf j log ≤ trues log
+        → trues (cond c (e ∷ of k log) (of k log)) + trues (cond d (e ∷ of j log) (of j log)) ≤ counts (isTrue (said e)) + trues log
+    go true true x y h = absurd (n (sym (eqb-true (e .row) k x) ∙ eqb-true (e .row) j y))
+    go true false x y h = omega arith
+    go false true x y h = omega arith
+    go false false x y h = omega arith
+
+-- row k moves word w from `old` to `new`
+pub record Moving (rows : List Row) (w old new k : ℕ) : Type 0 where
+  pub on : rowNumbered rows k .word ≡ w
+  pub from-old : rowNumbered rows k .old ≡ old
+  pub to-new : rowNumbered rows k .new ≡ new
+
+module _ (rows : List Row) (w old new : ℕ) (differ : new ≡ old → ⊥) (moving : (k : ℕ) → k < length rows → Moving rows w old new k) where
+  -- the row of an entry answers true at these values, or not
+  answer : Entry → List ℕ → Bool
+  answer e values = isTrue (answerOf (rowNumbered rows (e .row)) (getD values (rowNumbered rows (e .row) .word) 0))
+
+  -- from new on, nobody is told true
+  none-after : (values : List ℕ) (log : List Entry) (finals : List ℕ) → Replayed rows values log finals → All (λ e. e .row < length rows) log → getD values w 0 ≡ new → trues log ≡ 0
+  unfolding trues leaves answer
+  none-after values [] finals r in-file v = refl
+  none-after values (e ∷ log) finals r in-file v = go (answer e values) refl (r .1) (λ h. none-after values log finals h (in-file .1) v)
+    where
+      m : Moving rows w old new (e .row)
+      m = moving (e .row) (in-file .0)
+
+      go : (c : Bool) → answer e values ≡ c
+          → Replayed rows (cond c (set values (rowNumbered rows (e .row) .word) (newOf (rowNumbered rows (e .row)) (getD values (rowNumbered rows (e .row) .word) 0))) values) log finals
+          → (Replayed rows values log finals → trues log ≡ 0) → counts (isTrue (said e)) + trues log ≡ 0
+      go true q h more =
+          let x : getD values (rowNumbered rows (e .row) .word) 0 ≡ rowNumbered rows (e .row) .old = answer-true (rowNumbered rows (e .row)) (getD values (rowNumbered rows (e .row) .word) 0) q .1 in
+          absurd (differ (sym v ∙ ap (λ i. getD values i 0) (sym (m .on)) ∙ x ∙ m .from-old))
+      go false q h more =
+          let rest : trues log ≡ 0 = more h in
+          let here : isTrue (said e) ≡ false = ap isTrue (r .0) ∙ q in
+          rw (here, rest) refl
+
+  at-most-one : (values : List ℕ) (log : List Entry) (finals : List ℕ) → Replayed rows values log finals → All (λ e. e .row < length rows) log → w < length values → trues log ≤ 1
+  unfolding trues leaves answer
+  at-most-one values [] finals r in-file l = omega arith
+  at-most-one values (e ∷ log) finals r in-file l = go (answer e values) refl (r .1) (λ h. at-most-one values log finals h (in-file .1) l)
+    where
+      m : Moving rows w old new (e .row)
+      m = moving (e .row) (in-file .0)
+
+      go : (c : Bool) → answer e values ≡ c
+          → Replayed rows (cond c (set values (rowNumbered rows (e .row) .word) (newOf (rowNumbered rows (e .row)) (getD values (rowNumbered rows (e .row) .word) 0))) values) log finals
+          → (Replayed rows values log finals → trues log ≤ 1) → counts (isTrue (said e)) + trues log ≤ 1
+      go true q h more =
+          let rest : trues log ≡ 0 =
+          none-after (set values (rowNumbered rows (e .row) .word) (rowNumbered rows (e .row) .new)) log finals h (in-file .1)
+          (rw (m .on, m .to-new) (getD-set-same values w new 0 l)) in
+          let here : isTrue (said e) ≡ true = ap isTrue (r .0) ∙ q in
+          rw (here, rest) (omega arith)
+      go false q h more =
+          let rest : trues log ≤ 1 = more h in
+          let here : isTrue (said e) ≡ false = ap isTrue (r .0) ∙ q in
+          rw here (omega arith)
+
+  -- the capture: two operations are not both told true
+  pub one-mover : (P : ℕ) (words schedule : List ℕ) (log answers : List Entry) (values : List ℕ) → Demand3 rows P words schedule log answers values → w < length (map value words)
+      → (k j : ℕ) → (k ≡ j → ⊥) → (t : Told rows P words schedule k log answers) (u : Told rows P words schedule j log answers) → t .answer ≡ Is True → u .answer ≡ Is True → ⊥
+  one-mover P words schedule log answers values d l k j n t u et eu =
+      let one : trues log ≤ 1 = at-most-one (map value words) log values (d .replayed) (d .log-rows) l in
+      let a : truesOf k log ≡ 1 = logged-count (rowNumbered rows k .process) k (t .answer) log (t .logged) ∙ ap swapsTold et in
+      let b : truesOf j log ≡ 1 = logged-count (rowNumbered rows j .process) j (u .answer) log (u .logged) ∙ ap swapsTold eu in
+      let two : truesOf k log + truesOf j log ≤ trues log = two-rows k j n log in
+      omega arith

@@ -1,0 +1,166 @@
+-- Demand 3, stated, for rows, start words and a schedule. Here is what it says, and every definition that it rests on beside those of the
+-- machine (`Machine.antt`, which the contract of `run` cites too) and of plain words (`Plain.antt`). `File.antt` proves it of every run
+-- file that is not refused, and of what `run` leaves in the three buffers.
+--
+-- An operation is a row of the file, known by its number k. That it has begun, has ended, has swapped or has stored its answer is said of the
+-- states that the machine goes through; the log is not asked.
+-- Assumes nothing.
+use Prim.Native.Nat.{ℕ, suc, _+_, _≤_, _<_}
+use mathlib.Core.Path.{_≡_}
+use mathlib.Core.Bool.{Bool, true, false, not, _&&_}
+use mathlib.Core.List.{List, [], _∷_, _++_, map}
+use lib.Dec.{eqb}
+use lib.ListN.{length, getD, take}
+use Rattle.runfile.specs.declared.Row.{Row}
+use Rattle.runfile.specs.Operations.{rowNumbered, first}
+use Rattle.runfile.specs.Actions.{named}
+use Rattle.word.specs.Word.{value}
+use Rattle.rows.specs.declared.Entry.{Entry}
+use Rattle.rows.specs.Entries.{said}
+use Rattle.rows.specs.Log.{isSwap, firstSwap}
+use Rattle.machine.specs.declared.Answer.{Answer}
+use Rattle.machine.specs.declared.Answer.the-variants.{False, True, Value}
+use Rattle.machine.specs.declared.Maybe.{Maybe}
+use Rattle.machine.specs.declared.Maybe.the-variants.{Nothing as None, Is}
+use Rattle.machine.specs.declared.Opened.{Opened}
+use Rattle.machine.specs.declared.Opened.the-variants.{Nothing as Closed, Row as Open}
+use Rattle.machine.specs.declared.Stage.the-variants.{A5}
+use Rattle.machine.specs.declared.Status.the-variants.{Busy}
+use Rattle.machine.specs.Steps.{spoken}
+use Rattle.machine.specs.Machine.{State, procAt, step, after, begin}
+use Rattle.replay.specs.Plain.{Replayed}
+use Rattle.replay.specs.Lists.{All, keep, Found}
+
+-- the entries of row k, in the log or in the answers
+unfoldable pub of : ℕ → List Entry → List Entry
+of k entries = keep (λ e. eqb (e .row) k) entries
+
+-- row k stands there exactly once, for process p, with the verdict and value of this answer (of none: fail)
+pub record Once (p k : ℕ) (answer : Maybe) (entries : List Entry) : Type 0 where
+  pub entry : Entry
+  pub once : of k entries ≡ entry ∷ []
+  pub process : entry .process ≡ p
+  pub says-so : said entry ≡ spoken answer
+
+-- what the log holds of an operation that was told so: one told fail does not stand there
+abbrev pub Logged : ℕ → ℕ → Maybe → List Entry → Type 0
+Logged p k None log = of k log ≡ []
+Logged p k (Is a) log = Once p k (Is a) log
+
+-- x stands in the log before y
+pub record Before (x y : Entry) (log : List Entry) : Type 0 where
+  pub front : List Entry
+  pub middle : List Entry
+  pub back : List Entry
+  pub whole : log ≡ front ++ x ∷ (middle ++ y ∷ back)
+
+abbrev pub isRow : ℕ → Opened → Bool
+isRow k Closed = false
+isRow k (Open j) = eqb j k
+
+-- 1 if it is so
+abbrev pub counts : Bool → ℕ
+counts true = 1
+counts false = 0
+
+module _ (rows : List Row) where
+  -- the process whose row k is, and the word that row k is on
+  abbrev pub ownerOf : ℕ → ℕ
+  ownerOf k = rowNumbered rows k .process
+
+  abbrev pub wordOf : ℕ → State → ℕ
+  wordOf k s = getD (s .words) (rowNumbered rows k .word) 0
+
+  -- "A process's rows are carried out in file order": row k has been begun if its process has begun more rows than it has in front of k
+  abbrev pub Begun : ℕ → State → Type 0
+  Begun k s = k < first rows (ownerOf k) + procAt (ownerOf k) s .begun
+
+  abbrev pub StillOpen : ℕ → State → Type 0
+  StillOpen k s = procAt (ownerOf k) s .opened ≡ Open k
+
+  pub record Ended (k : ℕ) (s : State) : Type 0 where
+    pub begun : Begun k s
+    pub shut : StillOpen k s → ⊥
+
+  -- "has stored its answer": the row is open, and the answer is kept with it
+  abbrev pub Stored : ℕ → Maybe → State → Type 0
+  Stored k answer s = procAt (ownerOf k) s .stored ≡ answer
+
+  -- the byte at position t swaps for row k: the process that it names has row k open, and the row's word is changed by it
+  unfoldable pub swapsAt : (k t byte : ℕ) → State → Bool
+  swapsAt k t byte s = isRow k (procAt (named byte) s .opened) && not (eqb (wordOf k s) (wordOf k (step rows t byte s)))
+
+  -- how often row k swaps while these bytes go by, the first of them at position t
+  unfoldable pub swapCount : (k t : ℕ) → List ℕ → State → ℕ
+  swapCount k t [] s = 0
+  swapCount k t (byte ∷ bytes) s = counts (swapsAt k t byte s) + swapCount k (suc t) bytes (step rows t byte s)
+
+  -- the swap that a lost one, which read word w at position a, looks for is in the log: the front-most one has this position, and whatever is
+  -- handed in for the case that there is none is not used
+  pub record Beaten (w a : ℕ) (log : List Entry) : Type 0 where
+    pub by : Entry
+    pub front-most : Found (isSwap rows w a) log by
+    pub position : (otherwise : ℕ) → firstSwap rows w a otherwise log ≡ by .position
+
+-- how often an operation that was told this has swapped
+abbrev pub swapsTold : Maybe → ℕ
+swapsTold None = 0
+swapsTold (Is False) = 0
+swapsTold (Is True) = 1
+swapsTold (Is (Value v)) = 0
+
+module _ (rows : List Row) (P : ℕ) (words schedule : List ℕ) where
+  -- the state after the first n bytes, and after all of them
+  abbrev pub stateAfter : ℕ → State
+  stateAfter n = after rows 0 (take n schedule) (begin P words)
+
+  abbrev pub endState : State
+  endState = after rows 0 schedule (begin P words)
+
+  -- how often row k has swapped at the end, and after more bytes
+  abbrev pub swapsWith : ℕ → List ℕ → ℕ
+  swapsWith k more = swapCount rows k 0 (schedule ++ more) (begin P words)
+
+  abbrev pub swaps : ℕ → ℕ
+  swaps k = swapCount rows k 0 schedule (begin P words)
+
+  -- "An ended operation stands in the log once with its answer, or was told "fail" and does not stand there." It has one answer row. Told
+  -- true, it swapped exactly once; told anything else, it never swapped; and whatever bytes were to follow, that would be so
+  pub record Told (k : ℕ) (log answers : List Entry) : Type 0 where
+    pub answer : Maybe
+    pub answered : Once (ownerOf rows k) k answer answers
+    pub logged : Logged (ownerOf rows k) k answer log
+    pub swapped : (more : List ℕ) → swapsWith k more ≡ swapsTold answer
+
+  -- "one not ended stands there once exactly if it has swapped or stored its answer": with true if it swapped, with the stored answer if
+  -- stored. It has no answer row
+  pub record Untold (k : ℕ) (log answers : List Entry) : Type 0 where
+    pub unanswered : of k answers ≡ []
+    pub at-most-once : swaps k ≤ 1
+    pub has-swapped : swaps k ≡ 1 → Once (ownerOf rows k) k (Is True) log
+    pub has-stored : (a : Answer) → Stored rows k (Is a) endState → Once (ownerOf rows k) k (Is a) log
+    pub neither : swaps k ≡ 0 → Stored rows k None endState → of k log ≡ []
+
+  -- one not begun stands nowhere
+  pub record Unbegun (k : ℕ) (log answers : List Entry) : Type 0 where
+    pub unlogged : of k log ≡ []
+    pub unanswered : of k answers ≡ []
+    pub unswapped : swaps k ≡ 0
+
+  -- Demand 3 of a log, of answers, and of the values that the words have at the end
+  pub record Demand3 (log answers : List Entry) (values : List ℕ) : Type 0 where
+    -- 1. "carrying out the log in order on plain words gives every answer in the log and every final value"
+    pub replayed : Replayed rows (map value words) log values
+    -- 2, 3 and 6. every row of the file has ended, is open, or has not begun; and no other row number stands in log or answers
+    pub ended : (k : ℕ) → k < length rows → Ended rows k endState → Told k log answers
+    pub still-open : (k : ℕ) → k < length rows → StillOpen rows k endState → Untold k log answers
+    pub unbegun : (k : ℕ) → k < length rows → (Begun rows k endState → ⊥) → Unbegun k log answers
+    pub log-rows : All (λ e. e .row < length rows) log
+    pub answer-rows : All (λ e. e .row < length rows) answers
+    -- 4. "real-time order is kept": k had ended when j had not begun, after n bytes; if both stand in the log, k comes first
+    pub order : (n k j : ℕ) → k < length rows → j < length rows → Ended rows k (stateAfter n) → (Begun rows j (stateAfter n) → ⊥)
+        → (x y : Entry) → of k log ≡ x ∷ [] → of j log ≡ y ∷ [] → Before x y log
+    -- 5. a lost swap, false although the value read was old, finds the swap that beat it in the log as it stands when it stores its answer
+    pub beaten : (n k seen readAt triedAt : ℕ) → k < length rows → StillOpen rows k (stateAfter n)
+        → procAt (ownerOf rows k) (stateAfter n) .status ≡ Busy A5 seen readAt triedAt (Is False) → value seen ≡ rowNumbered rows k .old
+        → Beaten rows (rowNumbered rows k .word) readAt (stateAfter n .log)

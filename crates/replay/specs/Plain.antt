@@ -1,0 +1,31 @@
+-- Plain words: values without flip bits, that are read, or compared and swapped, at one stroke; and a log carried out on them.
+-- Assumes nothing.
+use Prim.Native.Nat.{ℕ}
+use mathlib.Core.Path.{_≡_}
+use mathlib.Core.Bool.{cond}
+use mathlib.Core.List.{List, [], _∷_}
+use lib.Dec.{eqb}
+use lib.ListN.{getD, set}
+use Rattle.runfile.specs.declared.Row.{Row}
+use Rattle.runfile.specs.Operations.{rowNumbered, reads, newOf}
+use Rattle.rows.specs.declared.Entry.{Entry}
+use Rattle.rows.specs.Entries.{Said, said, isTrue}
+
+-- "Verdicts: 0 false, 1 true, .. 3 value read": what a row answers where its word has the value v
+unfoldable pub answerOf : Row → ℕ → Said
+answerOf row v =
+    cond (reads row)
+    (record { verdict = 3; value = v })
+    (cond (eqb v (row .old)) (record { verdict = 1; value = 0 }) (record { verdict = 0; value = 0 }))
+
+-- the values that it leaves: new is put in exactly where it answers true
+unfoldable pub leaves : Row → List ℕ → List ℕ
+leaves row values =
+    let v = getD values (row .word) 0 in
+    cond (isTrue (answerOf row v)) (set values (row .word) (newOf row v)) values
+
+-- "carrying out the log in order on plain words gives every answer in the log and every final value"
+abbrev pub Replayed : List Row → List ℕ → List Entry → List ℕ → Type 0
+Replayed rows values [] finals = values ≡ finals
+Replayed rows values (e ∷ log) finals =
+    (said e ≡ answerOf (rowNumbered rows (e .row)) (getD values (rowNumbered rows (e .row) .word) 0)) × Replayed rows (leaves (rowNumbered rows (e .row)) values) log finals
