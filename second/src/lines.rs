@@ -4,6 +4,7 @@
 use std::io::{self, Write};
 
 use crate::machine::{Buffers, Ran, Refusal};
+use crate::pieces::pieces;
 
 pub fn write_outcome(
     out: &mut impl Write,
@@ -37,8 +38,7 @@ fn write_run(out: &mut impl Write, ran: &Ran, buffers: &Buffers) -> io::Result<(
 }
 
 fn write_rows(out: &mut impl Write, name: &str, buffer: &[u32], rows: usize) -> io::Result<()> {
-    let (fives, _) = buffer.as_chunks::<5>();
-    for [position, process, row, verdict, value] in fives.iter().take(rows) {
+    for [position, process, row, verdict, value] in pieces(buffer).take(rows) {
         writeln!(out, "{name} {position} {process} {row} {verdict} {value}")?;
     }
     Ok(())

@@ -13,6 +13,7 @@ mod hex;
 mod lines;
 mod machine;
 mod outcome_text;
+mod pieces;
 mod run;
 mod stream;
 mod sweep;

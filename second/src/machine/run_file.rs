@@ -4,6 +4,8 @@
 //! next begins, and the first offender is reported." So every check below is
 //! a pass of its own, and the passes stand in the order of the table.
 
+use crate::pieces::pieces;
+
 use super::action::Action;
 use super::refusal::{refuse_at, refuse_if, Cause, Refusal};
 use super::row::Row;
@@ -108,10 +110,8 @@ impl Header {
 
     /// Refusals 9, 10 and 11, each with the "row's first byte" as its place.
     fn read_rows(&self, bytes: &[u8]) -> Result<Vec<Row>, Refusal> {
-        let (encoded, _) = bytes.as_chunks::<{ Row::BYTES }>();
-        let decoded: Vec<Option<Row>> = encoded
-            .iter()
-            .map(|row| Row::decode(*row, self.processes, self.words))
+        let decoded: Vec<Option<Row>> = pieces(bytes)
+            .map(|row| Row::decode(row, self.processes, self.words))
             .collect();
         let out_of_range = decoded.iter().position(Option::is_none);
         refuse_at(self.row_place(out_of_range), Cause::RowField)?;
@@ -152,9 +152,7 @@ impl Header {
 
 /// "Any start word is allowed".
 fn read_words(bytes: &[u8]) -> Vec<Word> {
-    let (encoded, _) = bytes.as_chunks::<WORD_BYTES>();
-    encoded
-        .iter()
-        .map(|word| Word::from_number(u32::from_le_bytes(*word)))
+    pieces(bytes)
+        .map(|word| Word::from_number(u32::from_le_bytes(word)))
         .collect()
 }

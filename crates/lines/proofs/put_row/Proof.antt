@@ -4,8 +4,8 @@ use Prim.Native.Nat.{_≤_, _-_}
 use lib.ListN.{length}
 use mathlib.Core.Path.{_≡_}
 use borrow.Author.Needs.{needs}
-use Rattle.swr.proofs.put_row.Statement.{statement}
-use Rattle.swr.proofs.put_row.Tie as tie
+use Rattle.lines.proofs.put_row.Statement.{statement}
+use Rattle.lines.proofs.put_row.Tie as tie
 
 abbrev Inv-loop : tie.InvT-loop
 Inv-loop out₀ at name rows first end next₀ k₀ out next k = (k ≤ end) × (end ≤ length rows) × (length out ≡ length out₀)

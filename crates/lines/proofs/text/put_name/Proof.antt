@@ -4,8 +4,8 @@ use Prim.Native.Nat.{_≤_, _-_}
 use lib.ListN.{length}
 use mathlib.Core.Path.{_≡_}
 use borrow.Author.Needs.{needs}
-use Rattle.swr.proofs.text.put_name.Statement.{statement}
-use Rattle.swr.proofs.text.put_name.Tie as tie
+use Rattle.lines.proofs.text.put_name.Statement.{statement}
+use Rattle.lines.proofs.text.put_name.Tie as tie
 
 abbrev Inv-loop : tie.InvT-loop
 Inv-loop out₀ at name next₀ k₀ out next k = (k ≤ length name) × (length out ≡ length out₀)

@@ -1,17 +1,17 @@
--- `put_rows` meets its contract: the loop ends, every row begins within reach of a `usize`, and the text keeps its length.
+-- `put_words` meets its contract: every word that it reads lies in the buffer, and the text keeps its length.
 -- Assumes nothing.
 use Prim.Native.Nat.{_≤_, _-_}
 use lib.ListN.{length}
 use mathlib.Core.Path.{_≡_}
 use borrow.Author.Needs.{needs}
-use Rattle.swr.proofs.put_rows.Statement.{statement}
-use Rattle.swr.proofs.put_rows.Tie as tie
+use Rattle.lines.proofs.put_words.Statement.{statement}
+use Rattle.lines.proofs.put_words.Tie as tie
 
 abbrev Inv-loop : tie.InvT-loop
-Inv-loop out₀ at name rows count next₀ k₀ out next k = (k ≤ count) × (length out ≡ length out₀)
+Inv-loop out₀ at words count next₀ k₀ out next k = (k ≤ count) × (length out ≡ length out₀)
 
 abbrev μ-loop : tie.MeasureT-loop
-μ-loop out₀ at name rows count next₀ k₀ out next k = count - k
+μ-loop out₀ at words count next₀ k₀ out next k = count - k
 
 loop-holds : tie.Need-loop-holds Inv-loop μ-loop
 loop-holds c = search needs
@@ -22,11 +22,14 @@ same-length c = search needs
 returns : tie.Need-returns Inv-loop μ-loop
 returns c = search needs
 
-mul-put-row : tie.Need-mul-put-row Inv-loop μ-loop
-mul-put-row c = search needs
+mul-put-word : tie.Need-mul-put-word Inv-loop μ-loop
+mul-put-word c = search needs
 
-put-row-requires : tie.Need-put-row-requires Inv-loop μ-loop
-put-row-requires c κs = search needs
+shared-slice-read-put-word : tie.Need-shared-slice-read-put-word Inv-loop μ-loop
+shared-slice-read-put-word c = search needs
+
+put-word-requires : tie.Need-put-word-requires Inv-loop μ-loop
+put-word-requires c κs = search needs
 
 add-k : tie.Need-add-k Inv-loop μ-loop
 add-k c = search needs
@@ -43,8 +46,8 @@ same-length-2 c = search needs
 returns-2 : tie.Need-returns-2 Inv-loop μ-loop
 returns-2 c = search needs
 
-pub put-rows-spec : {M : Type 1} → statement M
-put-rows-spec =
+pub put-words-spec : {M : Type 1} → statement M
+put-words-spec =
     tie.close
     (tie.spec
     Inv-loop
@@ -52,8 +55,9 @@ put-rows-spec =
     loop-holds
     same-length
     returns
-    mul-put-row
-    put-row-requires
+    mul-put-word
+    shared-slice-read-put-word
+    put-word-requires
     add-k
     loop-less
     loop-again

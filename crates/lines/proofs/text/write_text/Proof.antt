@@ -3,8 +3,8 @@
 use lib.Seq.{length-take-le}
 use mathlib.Core.Path.{sym}
 use borrow.Author.Needs.{needs}
-use Rattle.swr.proofs.write_text.Statement.{statement}
-use Rattle.swr.proofs.write_text.Tie as tie
+use Rattle.lines.proofs.text.write_text.Statement.{statement}
+use Rattle.lines.proofs.text.write_text.Tie as tie
 
 slice-aggregate-write-all : tie.Need-slice-aggregate-write-all
 slice-aggregate-write-all c = sym (length-take-le _ _ (c .before .if1 .taken))

@@ -1,0 +1,129 @@
+// The lines of an outcome, for every program that prints one.
+//
+// What is put where is not promised: these functions promise only that nothing goes wrong. What they print is held
+// against an independent program's text by the comparison of `second/`.
+mod text;
+
+use run::Outcome;
+pub use text::put;
+pub use text::put_name;
+pub use text::put_number;
+pub use text::write_text;
+
+// A number of a buffer, as wide as text takes it.
+fn wide(n: u32) -> u64 {
+    n as u64
+}
+
+// A number of two bytes, low byte first.
+fn two_bytes(low: u8, high: u8) -> u64 {
+    low as u64 + 256 * high as u64
+}
+
+// Puts the line of one word: its number, its value and its flip bits as one number.
+fn put_word(out: &mut [u8], at: usize, number: usize, word: u32) -> usize {
+    let mut next = put_name(out, at, b"word");
+    next = put_number(out, next, number as u64);
+    next = put_number(out, next, wide(word % 65536));
+    next = put_number(out, next, wide(word / 65536));
+    put(out, next, b'\n')
+}
+
+// Puts the lines of the first `count` words. The buffer may hold more words than the run has.
+fn put_words(out: &mut [u8], at: usize, words: &[u32], count: usize) -> usize {
+    let mut next = at;
+    let mut k = 0;
+    while k < count {
+        if k >= words.len() {
+            return next;
+        }
+        next = put_word(out, next, k, words[k]);
+        k += 1;
+    }
+    next
+}
+
+// Puts the line of one log or answer row, whose five numbers begin at `first`.
+fn put_row(out: &mut [u8], at: usize, name: &[u8], rows: &[u32], first: usize) -> usize {
+    if rows.len() < 5 {
+        return at;
+    }
+    if first > rows.len() - 5 {
+        return at;
+    }
+    let end = first + 5;
+    let mut next = put_name(out, at, name);
+    let mut k = first;
+    while k < end {
+        next = put_number(out, next, wide(rows[k]));
+        k += 1;
+    }
+    put(out, next, b'\n')
+}
+
+// Puts the lines of the first `count` rows: a row has five numbers, and a run has at most 1,024 rows of a kind.
+fn put_rows(out: &mut [u8], at: usize, name: &[u8], rows: &[u32], count: usize) -> usize {
+    let mut next = at;
+    let mut k = 0;
+    while k < count {
+        if k >= 1024 {
+            return next;
+        }
+        next = put_row(out, next, name, rows, 5 * k);
+        k += 1;
+    }
+    next
+}
+
+// Puts the first line of a run: P, W, the number of rows and S, as the header has them.
+fn put_header(out: &mut [u8], at: usize, file: &[u8]) -> usize {
+    if file.len() < 11 {
+        return at;
+    }
+    let mut next = put_name(out, at, b"run");
+    next = put_number(out, next, runfile::index8(file[5]) as u64);
+    next = put_number(out, next, runfile::index8(file[6]) as u64);
+    next = put_number(out, next, two_bytes(file[7], file[8]));
+    next = put_number(out, next, two_bytes(file[9], file[10]));
+    put(out, next, b'\n')
+}
+
+// Puts the one line of a refusal: its number and its place. A place lies in the file, so it has few digits.
+fn put_refusal(out: &mut [u8], at: usize, number: u32, place: usize) -> usize {
+    let mut next = put_name(out, at, b"refused");
+    next = put_number(out, next, wide(number));
+    next = put_number(out, next, place as u64);
+    put(out, next, b'\n')
+}
+
+// W, as the header has it; a file that is refused as too short has none.
+fn words_of(file: &[u8]) -> usize {
+    if file.len() < 11 {
+        return 0;
+    }
+    runfile::index8(file[6])
+}
+
+// Puts the lines of what a run came to, from its outcome and from what stands in the lent buffers after it.
+pub fn put_outcome(
+    out: &mut [u8],
+    at: usize,
+    file: &[u8],
+    outcome: Outcome,
+    words: &[u32],
+    log: &[u32],
+    answers: &[u32],
+) -> usize {
+    match outcome {
+        Outcome::Refused(why, place) => put_refusal(out, at, runfile::number_of(why), place),
+        Outcome::Ran {
+            log: log_rows,
+            answers: answer_rows,
+        } => {
+            let mut next = put_header(out, at, file);
+            next = put_words(out, next, words, words_of(file));
+            next = put_rows(out, next, b"log", log, log_rows);
+            put_rows(out, next, b"answer", answers, answer_rows)
+        }
+    }
+}
