@@ -1,0 +1,198 @@
+-- The twelve bench cases of document 01 as one table, and one statement, by computation: the definitions that `run`'s contract cites
+-- give on each file what the document says.
+-- Assumes nothing.
+use Prim.Native.Nat.{ℕ}
+use mathlib.Core.Path.{_≡_, refl}
+use mathlib.Core.List.{List, [], _∷_, _++_, map}
+use lib.ListN.{length, replicate}
+use Rattle.runfile.specs.Layout.{u16At, u32At, marked, headerIn, rowAt}
+use Rattle.runfile.specs.Operations.{wordsOf, rowsFrom, tableOf, rowNumbered, first, count, names}
+use Rattle.runfile.specs.Refusals.{numberOf, badFields, sameFields, badByte, firstRow, firstLaterRow, firstByte, refusalOf}
+use Rattle.word.specs.Word.{bitOf, turnOf, valueIn, flipsIn, bitIn, swappedIn}
+use Rattle.rows.specs.Entries.{isTrue}
+use Rattle.rows.specs.Log.{onePast, place, insert, isSwap, firstSwap}
+use Rattle.rows.specs.Buffers.{five, infront}
+use Rattle.machine.specs.Steps.{spoken, tried, storing, decide, stepTurn}
+use Rattle.machine.specs.Machine.{turn, apply, applied, procAt, act, step, after, begin}
+use Rattle.run.specs.declared.Outcome.{Outcome}
+use Rattle.run.specs.declared.Outcome.the-variants as outcome
+use Rattle.run.specs.Run.{endOf, roomOf, outcomeOf, wordsLeft, logLeft, answersLeft, Ends}
+
+-- lists of numbers, one after the other
+joined : List (List ℕ) → List ℕ
+joined [] = []
+joined (x ∷ xs) = x ++ joined xs
+
+-- "5·00" means five times
+times : ℕ → ℕ → List ℕ
+times n byte = replicate n byte
+
+-- the eight bytes of a row: process, kind, word, a zero byte, old and new. All cases are on word 0, with values below 256
+compares : (p old new : ℕ) → List ℕ
+compares p old new = p ∷ 1 ∷ 0 ∷ 0 ∷ old ∷ 0 ∷ new ∷ 0 ∷ []
+
+reads : (p : ℕ) → List ℕ
+reads p = p ∷ 0 ∷ 0 ∷ 0 ∷ 0 ∷ 0 ∷ 0 ∷ 0 ∷ []
+
+-- a file of P processes and "one word, starting at 7": `SWR`, version 1, P, W, rows, S; the word; the rows; the schedule
+file : (P : ℕ) → List (List ℕ) → List ℕ → List ℕ
+file P rows schedule =
+    0x53 ∷ 0x57 ∷ 0x52 ∷ 1 ∷ 0 ∷ P ∷ 1 ∷ length rows ∷ 0 ∷ length schedule ∷ 0 ∷ 7 ∷ 0 ∷ 0 ∷ 0 ∷ (joined rows ++ schedule)
+
+-- what is lent: one word more than any case has, and one log and one answer row more than the longest schedule, 17 bytes. Whatever a
+-- run leaves alone is still 99
+pub lentWords : List ℕ
+lentWords = replicate 2 99
+
+pub lentRows : List ℕ
+lentRows = replicate 90 99
+
+-- what a run comes to, in the document's numbers: the refusal and its place, or the two row counts; then the three buffers
+pub data Result : Type 0 where
+  refused : (number place : ℕ) → Result
+  ran : (log answers : ℕ) → Result
+
+pub record Ended : Type 0 where
+  pub result : Result
+  pub words : List ℕ
+  pub log : List ℕ
+  pub answers : List ℕ
+
+pub resultOf : Outcome → Result
+resultOf (outcome.Refused why at) = refused (numberOf why) at
+resultOf (outcome.Ran log answers) = ran log answers
+
+-- a case: the file, and what the document says of it
+pub record Case : Type 0 where
+  pub file : List ℕ
+  pub says : Ended
+
+-- a log or answer row of five numbers: position, process, row number, verdict, value
+row : (position process number verdict value : ℕ) → List ℕ
+row position process number verdict value = position ∷ process ∷ number ∷ verdict ∷ value ∷ []
+
+-- the file runs to these log rows, answer rows and this final word
+comesTo : List ℕ → (log answers : List (List ℕ)) → ℕ → Case
+comesTo f log answers word =
+    record {
+      file = f;
+      says =
+          record {
+            result = ran (length log) (length answers);
+            words = word ∷ 99 ∷ [];
+            log = infront (joined log) lentRows;
+            answers = infront (joined answers) lentRows;
+          };
+    }
+
+-- the file is refused, and all buffers stay untouched
+isRefused : List ℕ → (number place : ℕ) → Case
+isRefused f number at =
+    record { file = f; says = record { result = refused number at; words = lentWords; log = lentRows; answers = lentRows } }
+
+-- a: a swap from its start to its answer
+a : Case
+a = comesTo (file 1 (compares 0 7 8 ∷ []) (times 7 0x00)) (row 4 0 0 1 0 ∷ []) (row 6 0 0 1 0 ∷ []) 65544
+
+-- b: p0 crashes behind A1, and p1 has swapped to the very value that p0 wants: p0 gets fail
+b : Case
+b =
+    comesTo
+    (file 2 (compares 0 7 8 ∷ compares 1 7 8 ∷ []) (joined (times 2 0x00 ∷ times 5 0x01 ∷ times 1 0x10 ∷ times 1 0x20 ∷ times 3 0x00 ∷ [])))
+    (row 6 1 1 1 0 ∷ [])
+    (row 11 0 0 2 0 ∷ [])
+    131080
+
+-- c: a crash between A3 and A4: the checkpoint is set and nothing swapped, so fail
+c : Case
+c = comesTo (file 1 (compares 0 7 8 ∷ []) (joined (times 4 0x00 ∷ times 1 0x10 ∷ times 1 0x20 ∷ times 4 0x00 ∷ []))) [] (row 9 0 0 2 0 ∷ []) 7
+
+-- d: a crash straight behind A4: the flip bit tells that the swap was done, so true
+d : Case
+d =
+    comesTo
+    (file 1 (compares 0 7 8 ∷ []) (joined (times 5 0x00 ∷ times 1 0x10 ∷ times 1 0x20 ∷ times 5 0x00 ∷ [])))
+    (row 4 0 0 1 0 ∷ [])
+    (row 11 0 0 1 0 ∷ [])
+    65544
+
+-- e: as d, and another swap has changed the value since: still true
+e : Case
+e =
+    comesTo
+    (file 2 (compares 0 7 8 ∷ compares 1 8 9 ∷ []) (joined (times 5 0x00 ∷ times 5 0x01 ∷ times 1 0x10 ∷ times 1 0x20 ∷ times 5 0x00 ∷ [])))
+    (row 4 0 0 1 0 ∷ row 9 1 1 1 0 ∷ [])
+    (row 16 0 0 1 0 ∷ [])
+    196617
+
+-- f: a lost swap: it is logged behind the swap to which it lost
+f : Case
+f =
+    comesTo
+    (file 2 (compares 0 7 8 ∷ compares 1 7 9 ∷ []) (joined (times 2 0x00 ∷ times 5 0x01 ∷ times 5 0x00 ∷ [])))
+    (row 6 1 1 1 0 ∷ row 6 0 0 0 0 ∷ [])
+    (row 11 0 0 0 0 ∷ [])
+    131081
+
+-- g: as f, with a crash before the answer is stored: fail, and not in the log
+g : Case
+g =
+    comesTo
+    (file 2 (compares 0 7 8 ∷ compares 1 7 9 ∷ []) (joined (times 2 0x00 ∷ times 5 0x01 ∷ times 3 0x00 ∷ times 1 0x10 ∷ times 1 0x20 ∷ times 4 0x00 ∷ [])))
+    (row 6 1 1 1 0 ∷ [])
+    (row 15 0 0 2 0 ∷ [])
+    131081
+
+-- h: a read
+h : Case
+h = comesTo (file 1 (reads 0 ∷ []) (times 4 0x00)) (row 1 0 0 3 7 ∷ []) (row 3 0 0 3 7 ∷ []) 7
+
+-- i: a compare that finds another value
+i : Case
+i = comesTo (file 1 (compares 0 5 6 ∷ []) (times 4 0x00)) (row 1 0 0 0 0 ∷ []) (row 3 0 0 0 0 ∷ []) 7
+
+-- j: a crash of all, a step of a process that is down, a wake with no row open, a start
+j : Case
+j = comesTo (file 1 (compares 0 7 8 ∷ []) (joined (times 1 0xF0 ∷ times 1 0x00 ∷ times 1 0x20 ∷ times 1 0x00 ∷ []))) [] [] 7
+
+-- k: as d, with a second crash when recovery has stored true: the second recovery returns it
+k : Case
+k =
+    comesTo
+    (file
+    1
+    (compares 0 7 8 ∷ [])
+    (joined (times 5 0x00 ∷ times 1 0x10 ∷ times 1 0x20 ∷ times 4 0x00 ∷ times 1 0x10 ∷ times 1 0x20 ∷ times 2 0x00 ∷ [])))
+    (row 4 0 0 1 0 ∷ [])
+    (row 14 0 0 1 0 ∷ [])
+    65544
+
+-- l: a compare row with old equal to new
+l : Case
+l = isRefused (file 1 (compares 0 7 7 ∷ []) []) 11 15
+
+pub table : List Case
+table = a ∷ b ∷ c ∷ d ∷ e ∷ f ∷ g ∷ h ∷ i ∷ j ∷ k ∷ l ∷ []
+
+-- what the contract of `run` says of a file over what is lent here
+pub ended : List ℕ → Ended
+ended f =
+    let checked = refusalOf f (roomOf lentWords lentRows lentRows) in
+    record {
+      result = resultOf (outcomeOf checked f);
+      words = wordsLeft checked f lentWords;
+      log = logLeft checked f lentRows;
+      answers = answersLeft checked f lentRows;
+    }
+
+-- the statement: each file of the table ends as the table says
+pub cases : map (λ x. ended (x .file)) table ≡ map (λ x. x .says) table
+unfolding joined times compares reads file lentWords lentRows resultOf row comesTo isRefused a b c d e f g h i j k l table ended u16At u32At marked headerIn rowAt wordsOf rowsFrom tableOf rowNumbered first count names badFields sameFields badByte firstRow firstLaterRow firstByte refusalOf bitOf turnOf valueIn flipsIn bitIn swappedIn isTrue onePast place insert isSwap firstSwap five infront spoken tried storing decide stepTurn turn apply applied procAt act step after begin endOf
+cases = refl
+
+-- and `run` gives nothing else: whatever meets its contract on a file, over what is lent here, is what `ended` says
+pub run-ends : (f : List ℕ) (r : Outcome) (words log answers : List ℕ)
+    → Ends f lentWords lentRows lentRows r words log answers
+    → _≡_ {A = Ended} (record { result = resultOf r; words = words; log = log; answers = answers }) (ended f)
+unfolding ended
+run-ends f r words log answers ends = rw (ends .result, ends .words-are, ends .log-is, ends .answers-are)

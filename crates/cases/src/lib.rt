@@ -1,0 +1,1 @@
+// Theorems only: the twelve bench cases of document 01, in specs/Cases.
