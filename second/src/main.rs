@@ -27,9 +27,11 @@ use std::io;
 use std::path::Path;
 use std::process::ExitCode;
 
+use generate::Flavour;
+
 const USAGE: &str = "usage:
   second run < FILE
-  second generate SEED COUNT > STREAM
+  second generate SEED COUNT [any|short|few|many] > STREAM
   second sweep < STREAM > OUTCOMES
   second compare STREAM OUTCOMES_A OUTCOMES_B
   second check STREAM OUTCOMES";
@@ -59,7 +61,16 @@ fn dispatch(arguments: &[OsString]) -> Option<io::Result<Ending>> {
     let (name, rest) = arguments.split_first()?;
     match (name.to_str()?, rest) {
         ("run", []) => Some(run::command()),
-        ("generate", [seed, count]) => Some(generate::command(number(seed)?, number(count)?)),
+        ("generate", [seed, count]) => Some(generate::command(
+            number(seed)?,
+            number(count)?,
+            Flavour::Any,
+        )),
+        ("generate", [seed, count, flavour]) => Some(generate::command(
+            number(seed)?,
+            number(count)?,
+            Flavour::named(flavour.to_str()?)?,
+        )),
         ("sweep", []) => Some(sweep::command()),
         ("compare", [stream, a, b]) => Some(compare::command(
             Path::new(stream),

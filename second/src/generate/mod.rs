@@ -17,13 +17,50 @@ use crate::Ending;
 
 use draft::Draft;
 use random::Random;
-use valid::{fullest_draft, valid_draft};
+use scenes::Mood;
+use valid::{fullest_draft, long_draft, short_draft, valid_draft};
 
-pub fn command(seed: u64, count: u64) -> io::Result<Ending> {
+/// What sort of files a stream has.
+#[derive(Clone, Copy)]
+pub enum Flavour {
+    /// Valid files and damaged ones, of every size.
+    Any,
+    /// The same, of short files only.
+    Short,
+    /// Valid files with the longest schedule, and few or many lost swaps.
+    FewLost,
+    ManyLost,
+}
+
+impl Flavour {
+    pub fn named(name: &str) -> Option<Flavour> {
+        match name {
+            "any" => Some(Flavour::Any),
+            "short" => Some(Flavour::Short),
+            "few" => Some(Flavour::FewLost),
+            "many" => Some(Flavour::ManyLost),
+            _ => None,
+        }
+    }
+
+    fn record(self, random: &mut Random) -> Record {
+        match self {
+            Flavour::Any => any_record(random),
+            Flavour::Short => {
+                let kind = any_kind(random);
+                record_of(kind, short_draft(random), random)
+            }
+            Flavour::FewLost => exact_record(long_draft(Mood::Calm, random)),
+            Flavour::ManyLost => exact_record(long_draft(Mood::Racing, random)),
+        }
+    }
+}
+
+pub fn command(seed: u64, count: u64, flavour: Flavour) -> io::Result<Ending> {
     let mut random = Random::seeded(seed);
     let mut out = BufWriter::new(io::stdout().lock());
     for _ in 0..count {
-        any_record(&mut random).write(&mut out)?;
+        flavour.record(&mut random).write(&mut out)?;
     }
     out.flush()?;
     Ok(Ending::Clean)
@@ -39,15 +76,27 @@ enum Kind {
     Damaged,
 }
 
-fn any_record(random: &mut Random) -> Record {
-    let kind = random.weighted([
+fn any_kind(random: &mut Random) -> Kind {
+    random.weighted([
         (46, Kind::Valid),
         (12, Kind::ShortBuffers),
         (18, Kind::SingleFault),
         (6, Kind::SeveralFaults),
         (8, Kind::SeveralRowFaults),
         (10, Kind::Damaged),
-    ]);
+    ])
+}
+
+/// A valid file with buffers of just the lengths that it needs.
+fn exact_record(draft: Draft) -> Record {
+    Record {
+        file: draft.bytes(),
+        lengths: lengths::exact(draft.words.len(), draft.schedule.len()),
+    }
+}
+
+fn any_record(random: &mut Random) -> Record {
+    let kind = any_kind(random);
     let draft = if random.percent(2) {
         fullest_draft(random)
     } else {

@@ -9,19 +9,43 @@ use super::script::{
 
 type Scene = fn(&mut Script);
 
+/// What happens in a file.
+#[derive(Clone, Copy)]
+pub enum Mood {
+    /// Everything; some files are calm and some are full of crashes.
+    Any,
+    /// Hardly a swap is lost.
+    Calm,
+    /// Every scene loses swaps.
+    Racing,
+}
+
+impl Mood {
+    /// How often each scene is played.
+    fn scenes(self, random: &mut Random) -> [(usize, Scene); 7] {
+        let [a, r, t, w, c, s, n] = match self {
+            Mood::Any => {
+                let crashes = random.one_of([0, 5, 20, 60]);
+                [20, 25, 15, 15, crashes, crashes / 5, crashes / 5]
+            }
+            Mood::Calm => [90, 2, 2, 0, 6, 0, 0],
+            Mood::Racing => [0, 1, 0, 1, 0, 0, 0],
+        };
+        [
+            (a, alone),
+            (r, race),
+            (t, there_and_back),
+            (w, weave),
+            (c, crash_at_a_stage),
+            (s, storm),
+            (n, noise),
+        ]
+    }
+}
+
 /// A file of scenes up to the length of the schedule.
-pub fn write_scenes(size: Size, random: &mut Random) -> Draft {
-    // Some files are calm and some are full of crashes.
-    let crashes = random.one_of([0, 5, 20, 60]);
-    let scenes: [(usize, Scene); 7] = [
-        (20, alone),
-        (25, race),
-        (15, there_and_back),
-        (15, weave),
-        (crashes, crash_at_a_stage),
-        (crashes / 5, storm),
-        (crashes / 5, noise),
-    ];
+pub fn write_scenes(size: Size, mood: Mood, random: &mut Random) -> Draft {
+    let scenes = mood.scenes(random);
     let mut script = Script::blank(size, random);
     while script.length() < size.schedule {
         let scene = script.random.weighted(scenes);

@@ -2,7 +2,7 @@
 
 use super::draft::{Draft, DraftRow, Palette};
 use super::random::Random;
-use super::scenes::write_scenes;
+use super::scenes::{write_scenes, Mood};
 use super::script::Size;
 
 const MOST: usize = 16;
@@ -11,8 +11,34 @@ const LONGEST_SCHEDULE: usize = 1024;
 
 pub fn valid_draft(random: &mut Random) -> Draft {
     let size = any_size(random);
+    draft_of(size, random)
+}
+
+/// A file that is short enough to be stored.
+pub fn short_draft(random: &mut Random) -> Draft {
+    let size = Size {
+        processes: random.between(1, 4),
+        words: random.between(1, 3),
+        schedule: random.between(0, 60),
+        spare_rows: random.one_of([0, 0, 2]),
+    };
+    draft_of(size, random)
+}
+
+/// A file with the longest schedule, all of scenes of one mood.
+pub fn long_draft(mood: Mood, random: &mut Random) -> Draft {
+    let size = Size {
+        processes: random.between(4, MOST),
+        words: random.between(1, MOST),
+        schedule: LONGEST_SCHEDULE,
+        spare_rows: 0,
+    };
+    within_the_row_limit(write_scenes(size, mood, random))
+}
+
+fn draft_of(size: Size, random: &mut Random) -> Draft {
     within_the_row_limit(if random.percent(75) {
-        write_scenes(size, random)
+        write_scenes(size, Mood::Any, random)
     } else {
         write_wild(size, random)
     })
