@@ -17,6 +17,7 @@ mod pieces;
 mod run;
 mod stream;
 mod sweep;
+mod unrun;
 
 #[cfg(test)]
 mod bench_cases;
@@ -31,7 +32,8 @@ use generate::Flavour;
 
 const USAGE: &str = "usage:
   second run < FILE
-  second generate SEED COUNT [any|short|few|many] > STREAM
+  second generate SEED COUNT [any|short|few|many|quiet] > STREAM
+  second unrun < STREAM > STREAM
   second sweep < STREAM > OUTCOMES
   second compare STREAM OUTCOMES_A OUTCOMES_B
   second check STREAM OUTCOMES";
@@ -71,6 +73,7 @@ fn dispatch(arguments: &[OsString]) -> Option<io::Result<Ending>> {
             number(count)?,
             Flavour::named(flavour.to_str()?)?,
         )),
+        ("unrun", []) => Some(unrun::command()),
         ("sweep", []) => Some(sweep::command()),
         ("compare", [stream, a, b]) => Some(compare::command(
             Path::new(stream),

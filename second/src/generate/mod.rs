@@ -18,7 +18,7 @@ use crate::Ending;
 use draft::Draft;
 use random::Random;
 use scenes::Mood;
-use valid::{fullest_draft, long_draft, short_draft, valid_draft};
+use valid::{fullest_draft, long_draft, quiet_draft, short_draft, valid_draft};
 
 /// What sort of files a stream has.
 #[derive(Clone, Copy)]
@@ -30,6 +30,8 @@ pub enum Flavour {
     /// Valid files with the longest schedule, and few or many lost swaps.
     FewLost,
     ManyLost,
+    /// Valid files with the longest schedule that answer nothing.
+    Quiet,
 }
 
 impl Flavour {
@@ -39,6 +41,7 @@ impl Flavour {
             "short" => Some(Flavour::Short),
             "few" => Some(Flavour::FewLost),
             "many" => Some(Flavour::ManyLost),
+            "quiet" => Some(Flavour::Quiet),
             _ => None,
         }
     }
@@ -52,6 +55,7 @@ impl Flavour {
             }
             Flavour::FewLost => exact_record(long_draft(Mood::Calm, random)),
             Flavour::ManyLost => exact_record(long_draft(Mood::Racing, random)),
+            Flavour::Quiet => exact_record(quiet_draft(random)),
         }
     }
 }
@@ -159,6 +163,17 @@ mod tests {
         };
         assert_eq!(records(3), records(3));
         assert_ne!(records(3), records(4));
+    }
+
+    #[test]
+    fn a_quiet_file_runs_and_answers_nothing() {
+        let record = Flavour::Quiet.record(&mut Random::seeded(5));
+        let mut printed = Vec::new();
+        crate::sweep::print_record(&record, &mut printed).unwrap();
+        let printed = String::from_utf8(printed).unwrap();
+        let names = |line: &str| line.split(' ').next().unwrap().to_string();
+        let lines: Vec<String> = printed.lines().map(names).collect();
+        assert_eq!(lines, ["run", "word", "sum"]);
     }
 
     /// The generator's valid files are valid: each has an outcome that is no

@@ -36,6 +36,23 @@ pub fn long_draft(mood: Mood, random: &mut Random) -> Draft {
     within_the_row_limit(write_scenes(size, mood, random))
 }
 
+/// A file with the longest schedule in which work is done at every byte and
+/// nothing is answered: each process is cut off in its recovery, again and
+/// again.
+pub fn quiet_draft(random: &mut Random) -> Draft {
+    let processes = random.between(4, MOST) as u8;
+    let rows = (0..processes).map(|process| DraftRow::swap(process, 0, 7, 8));
+    // Start, A1, A2 and A3, so that the checkpoint is set.
+    let mut schedule: Vec<u8> = (0..processes).flat_map(|process| [process; 4]).collect();
+    while schedule.len() < LONGEST_SCHEDULE {
+        let process = random.below(processes.into()) as u8;
+        // V1, V2 and V3: one more step would answer.
+        schedule.extend([0x10 | process, 0x20 | process, process, process, process]);
+    }
+    schedule.truncate(LONGEST_SCHEDULE);
+    Draft::honest(processes, vec![7], rows.collect(), schedule)
+}
+
 fn draft_of(size: Size, random: &mut Random) -> Draft {
     within_the_row_limit(if random.percent(75) {
         write_scenes(size, Mood::Any, random)
