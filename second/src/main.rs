@@ -1,8 +1,8 @@
 //! `second`: an independent second program for the machine of document 01.
 //!
 //! "Other cases are run and compared with an independent second program."
-//! This is that program. It was written from document 01 alone; comments
-//! quote the sentence that a piece of code renders.
+//! This is that program. It was written from document 01 and the change
+//! requests alone; comments quote the sentence that a piece of code renders.
 
 #![forbid(unsafe_code)]
 
@@ -21,6 +21,8 @@ mod unrun;
 
 #[cfg(test)]
 mod bench_cases;
+#[cfg(test)]
+mod every_schedule;
 
 use std::env;
 use std::ffi::{OsStr, OsString};

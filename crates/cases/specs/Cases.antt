@@ -1,5 +1,5 @@
 -- The twelve bench cases of document 01 as one table, and one statement, by computation: the definitions that `run`'s contract cites
--- give on each file what the document says.
+-- give on each file what the document says. Each start has the two bytes more of change request 1, and the positions behind it are moved.
 -- Assumes nothing.
 use Prim.Native.Nat.{ℕ}
 use mathlib.Core.Path.{_≡_, refl}
@@ -39,13 +39,13 @@ file : (P : ℕ) → List (List ℕ) → List ℕ → List ℕ
 file P rows schedule =
     0x53 ∷ 0x57 ∷ 0x52 ∷ 1 ∷ 0 ∷ P ∷ 1 ∷ length rows ∷ 0 ∷ length schedule ∷ 0 ∷ 7 ∷ 0 ∷ 0 ∷ 0 ∷ (joined rows ++ schedule)
 
--- what is lent: one word more than any case has, and one log and one answer row more than the longest schedule, 17 bytes. Whatever a
+-- what is lent: one word more than any case has, and one log and one answer row more than the longest schedule, 21 bytes. Whatever a
 -- run leaves alone is still 99
 pub lentWords : List ℕ
 lentWords = replicate 2 99
 
 pub lentRows : List ℕ
-lentRows = replicate 90 99
+lentRows = replicate 110 99
 
 -- what a run comes to, in the document's numbers: the refusal and its place, or the two row counts; then the three buffers
 pub data Result : Type 0 where
@@ -92,68 +92,68 @@ isRefused f number at =
 
 -- a: a swap from its start to its answer
 a : Case
-a = comesTo (file 1 (compares 0 7 8 ∷ []) (times 7 0x00)) (row 4 0 0 1 0 ∷ []) (row 6 0 0 1 0 ∷ []) 65544
+a = comesTo (file 1 (compares 0 7 8 ∷ []) (times 9 0x00)) (row 6 0 0 1 0 ∷ []) (row 8 0 0 1 0 ∷ []) 65544
 
 -- b: p0 crashes behind A1, and p1 has swapped to the very value that p0 wants: p0 gets fail
 b : Case
 b =
     comesTo
-    (file 2 (compares 0 7 8 ∷ compares 1 7 8 ∷ []) (joined (times 2 0x00 ∷ times 5 0x01 ∷ times 1 0x10 ∷ times 1 0x20 ∷ times 3 0x00 ∷ [])))
-    (row 6 1 1 1 0 ∷ [])
-    (row 11 0 0 2 0 ∷ [])
+    (file 2 (compares 0 7 8 ∷ compares 1 7 8 ∷ []) (joined (times 4 0x00 ∷ times 7 0x01 ∷ times 1 0x10 ∷ times 1 0x20 ∷ times 3 0x00 ∷ [])))
+    (row 10 1 1 1 0 ∷ [])
+    (row 15 0 0 2 0 ∷ [])
     131080
 
 -- c: a crash between A3 and A4: the checkpoint is set and nothing swapped, so fail
 c : Case
-c = comesTo (file 1 (compares 0 7 8 ∷ []) (joined (times 4 0x00 ∷ times 1 0x10 ∷ times 1 0x20 ∷ times 4 0x00 ∷ []))) [] (row 9 0 0 2 0 ∷ []) 7
+c = comesTo (file 1 (compares 0 7 8 ∷ []) (joined (times 6 0x00 ∷ times 1 0x10 ∷ times 1 0x20 ∷ times 4 0x00 ∷ []))) [] (row 11 0 0 2 0 ∷ []) 7
 
 -- d: a crash straight behind A4: the flip bit tells that the swap was done, so true
 d : Case
 d =
     comesTo
-    (file 1 (compares 0 7 8 ∷ []) (joined (times 5 0x00 ∷ times 1 0x10 ∷ times 1 0x20 ∷ times 5 0x00 ∷ [])))
-    (row 4 0 0 1 0 ∷ [])
-    (row 11 0 0 1 0 ∷ [])
+    (file 1 (compares 0 7 8 ∷ []) (joined (times 7 0x00 ∷ times 1 0x10 ∷ times 1 0x20 ∷ times 5 0x00 ∷ [])))
+    (row 6 0 0 1 0 ∷ [])
+    (row 13 0 0 1 0 ∷ [])
     65544
 
 -- e: as d, and another swap has changed the value since: still true
 e : Case
 e =
     comesTo
-    (file 2 (compares 0 7 8 ∷ compares 1 8 9 ∷ []) (joined (times 5 0x00 ∷ times 5 0x01 ∷ times 1 0x10 ∷ times 1 0x20 ∷ times 5 0x00 ∷ [])))
-    (row 4 0 0 1 0 ∷ row 9 1 1 1 0 ∷ [])
-    (row 16 0 0 1 0 ∷ [])
+    (file 2 (compares 0 7 8 ∷ compares 1 8 9 ∷ []) (joined (times 7 0x00 ∷ times 7 0x01 ∷ times 1 0x10 ∷ times 1 0x20 ∷ times 5 0x00 ∷ [])))
+    (row 6 0 0 1 0 ∷ row 13 1 1 1 0 ∷ [])
+    (row 20 0 0 1 0 ∷ [])
     196617
 
 -- f: a lost swap: it is logged behind the swap to which it lost
 f : Case
 f =
     comesTo
-    (file 2 (compares 0 7 8 ∷ compares 1 7 9 ∷ []) (joined (times 2 0x00 ∷ times 5 0x01 ∷ times 5 0x00 ∷ [])))
-    (row 6 1 1 1 0 ∷ row 6 0 0 0 0 ∷ [])
-    (row 11 0 0 0 0 ∷ [])
+    (file 2 (compares 0 7 8 ∷ compares 1 7 9 ∷ []) (joined (times 4 0x00 ∷ times 7 0x01 ∷ times 5 0x00 ∷ [])))
+    (row 10 1 1 1 0 ∷ row 10 0 0 0 0 ∷ [])
+    (row 15 0 0 0 0 ∷ [])
     131081
 
 -- g: as f, with a crash before the answer is stored: fail, and not in the log
 g : Case
 g =
     comesTo
-    (file 2 (compares 0 7 8 ∷ compares 1 7 9 ∷ []) (joined (times 2 0x00 ∷ times 5 0x01 ∷ times 3 0x00 ∷ times 1 0x10 ∷ times 1 0x20 ∷ times 4 0x00 ∷ [])))
-    (row 6 1 1 1 0 ∷ [])
-    (row 15 0 0 2 0 ∷ [])
+    (file 2 (compares 0 7 8 ∷ compares 1 7 9 ∷ []) (joined (times 4 0x00 ∷ times 7 0x01 ∷ times 3 0x00 ∷ times 1 0x10 ∷ times 1 0x20 ∷ times 4 0x00 ∷ [])))
+    (row 10 1 1 1 0 ∷ [])
+    (row 19 0 0 2 0 ∷ [])
     131081
 
 -- h: a read
 h : Case
-h = comesTo (file 1 (reads 0 ∷ []) (times 4 0x00)) (row 1 0 0 3 7 ∷ []) (row 3 0 0 3 7 ∷ []) 7
+h = comesTo (file 1 (reads 0 ∷ []) (times 6 0x00)) (row 3 0 0 3 7 ∷ []) (row 5 0 0 3 7 ∷ []) 7
 
 -- i: a compare that finds another value
 i : Case
-i = comesTo (file 1 (compares 0 5 6 ∷ []) (times 4 0x00)) (row 1 0 0 0 0 ∷ []) (row 3 0 0 0 0 ∷ []) 7
+i = comesTo (file 1 (compares 0 5 6 ∷ []) (times 6 0x00)) (row 3 0 0 0 0 ∷ []) (row 5 0 0 0 0 ∷ []) 7
 
--- j: a crash of all, a step of a process that is down, a wake with no row open, a start
+-- j: a crash of all, a step of a process that is down, a wake with no row open, a start of three stores
 j : Case
-j = comesTo (file 1 (compares 0 7 8 ∷ []) (joined (times 1 0xF0 ∷ times 1 0x00 ∷ times 1 0x20 ∷ times 1 0x00 ∷ []))) [] [] 7
+j = comesTo (file 1 (compares 0 7 8 ∷ []) (joined (times 1 0xF0 ∷ times 1 0x00 ∷ times 1 0x20 ∷ times 3 0x00 ∷ []))) [] [] 7
 
 -- k: as d, with a second crash when recovery has stored true: the second recovery returns it
 k : Case
@@ -162,9 +162,9 @@ k =
     (file
     1
     (compares 0 7 8 ∷ [])
-    (joined (times 5 0x00 ∷ times 1 0x10 ∷ times 1 0x20 ∷ times 4 0x00 ∷ times 1 0x10 ∷ times 1 0x20 ∷ times 2 0x00 ∷ [])))
-    (row 4 0 0 1 0 ∷ [])
-    (row 14 0 0 1 0 ∷ [])
+    (joined (times 7 0x00 ∷ times 1 0x10 ∷ times 1 0x20 ∷ times 4 0x00 ∷ times 1 0x10 ∷ times 1 0x20 ∷ times 2 0x00 ∷ [])))
+    (row 6 0 0 1 0 ∷ [])
+    (row 16 0 0 1 0 ∷ [])
     65544
 
 -- l: a compare row with old equal to new

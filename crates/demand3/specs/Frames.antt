@@ -14,7 +14,7 @@ use Rattle.machine.specs.declared.Maybe.{Maybe}
 use Rattle.machine.specs.declared.Maybe.the-variants.{Nothing as None, Is}
 use Rattle.machine.specs.declared.Opened.the-variants.{Row as Open}
 use Rattle.machine.specs.declared.Status.{Status}
-use Rattle.machine.specs.declared.Status.the-variants.{Down, Idle, Busy}
+use Rattle.machine.specs.declared.Status.the-variants.{Down, Idle, N2, N3, Busy}
 use Rattle.word.specs.Word.{bit}
 use Rattle.runfile.specs.Operations.{rowNumbered, first, count}
 use Rattle.machine.specs.Machine.{State}
@@ -89,6 +89,8 @@ module _ (rows : List Row) (start : List ℕ) where
     status-frame : (st : Status) → StatusOk rows start Late p t (s .words) (s .log) r st → StatusOk rows start Late′ p t′ (s′ .words) (s′ .log) r st
     status-frame Down h = h
     status-frame Idle h = h
+    status-frame N2 h = h
+    status-frame N3 h = h
     status-frame (Busy stage x a ta ans) (working k o h) = working k o (stage-frame k o stage x a ans h)
 
     open-frame : (k : ℕ) → r .begun ≤ count rows p → IsOpen rows start p k s r → IsOpen rows start p k s′ r

@@ -17,7 +17,7 @@ use Rattle.machine.specs.declared.Maybe.{Maybe}
 use Rattle.machine.specs.declared.Maybe.the-variants.{Nothing as None, Is}
 use Rattle.machine.specs.declared.Opened.the-variants.{Nothing as Closed, Row as Open}
 use Rattle.machine.specs.declared.Status.{Status}
-use Rattle.machine.specs.declared.Status.the-variants.{Down, Idle, Busy}
+use Rattle.machine.specs.declared.Status.the-variants.{Down, Idle, N2, N3, Busy}
 use Rattle.word.specs.Word.{value, bit, swapped}
 use Rattle.runfile.specs.Operations.{rowNumbered, first, count, reads, newOf}
 use Rattle.rows.specs.Entries.{said, isTrue}
@@ -109,6 +109,8 @@ module _ (rows : List Row) (start : List ℕ) where
   abbrev pub StatusOk : Times → (p t : ℕ) → List ℕ → List Entry → Process → Status → Type 0
   StatusOk Late p t words log r Down = Unit {0}
   StatusOk Late p t words log r Idle = r .opened ≡ Closed
+  StatusOk Late p t words log r N2 = (r .opened ≡ Closed) × (r .begun < count rows p) × (r .stored ≡ None)
+  StatusOk Late p t words log r N3 = (r .opened ≡ Closed) × (r .begun < count rows p) × (r .stored ≡ None) × (r .checkpoint ≡ false)
   StatusOk Late p t words log r (Busy stage x a ta ans) = BusyOk Late p t words log r stage x a ans
 
   -- the open row is the last begun one, has no answer row, and stands in the log as is due

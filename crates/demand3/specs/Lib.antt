@@ -14,3 +14,4 @@ pub mod Demand
 pub mod File
 pub mod Wrong
 pub mod Capture
+pub mod Announce

@@ -13,7 +13,9 @@ use Rattle.runfile.specs.Operations.{rowNumbered, first, count}
 use Rattle.runfile.specs.Actions.{Action, step as steps, crash as crashes, wake as wakes, crashAll as crashesAll, none as idles, action, named}
 use Rattle.machine.specs.declared.Opened.the-variants.{Row as Open}
 use Rattle.machine.specs.declared.Turn.the-variants.{Still, Quiet}
-use Rattle.machine.specs.Records.{fresh, started}
+use Rattle.machine.specs.Records.{fresh, with-stored}
+use Rattle.machine.specs.declared.Maybe.the-variants.{Nothing as None}
+use Rattle.machine.specs.declared.Status.the-variants.{N2}
 use Rattle.machine.specs.Steps.{stepTurn}
 use Rattle.machine.specs.Machine.{State, Effect, Move, moveOf, wordsAfter, logAfter, procAt, apply, applied, turn, act, step}
 use Rattle.replay.specs.Replay.{Good}
@@ -42,7 +44,7 @@ module _ (rows : List Row) (start : List ℕ) (good : (k : ℕ) → Good (length
   does-act steps p = go (ltb p P) refl
     where
       -- a process that is not there would be idle, and begin a row
-      idle : (c : Bool) → Does rows start Late p t s (applied p (moveOf rows (s .log) p t 0 (rowNumbered rows 0 .word) fresh (cond c (Quiet (started (first rows p + 0) fresh)) Still)) s)
+      idle : (c : Bool) → Does rows start Late p t s (applied p (moveOf rows (s .log) p t 0 (rowNumbered rows 0 .word) fresh (cond c (Quiet (with-stored N2 None fresh)) Still)) s)
       idle true = nothing refl refl
       idle false = nothing refl refl
 

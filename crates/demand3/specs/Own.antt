@@ -122,10 +122,23 @@ module _ (rows : List Row) (start : List ℕ) (Late : Times) where
             let ne : first rows p + i ≡ k → ⊥ = eqb-false (first rows p + i) k q in
             ended-alone refl (of-last (first rows p + i) (s .answers) e (λ x. ne (sym x ∙ er))) (l .ended i h (λ x. ne (open-same x o)))
 
+    -- no row is open, and none is begun
+    pub own-closed : r .opened ≡ Closed → (r′ : Process) → r′ .opened ≡ r .opened → r′ .begun ≡ r .begun → (ps : List Process) → StatusOk rows start Late p (suc t) (s .words) (s .log) r′ (r′ .status) → Local rows start Late p (suc t) (apply quiet ps s) r′
+    unfolding apply
+    own-closed o r′ eo eb ps w =
+        record {
+          fits = rw eb (l .fits);
+          future-log = λ i h g. l .future-log i (omega arith) g;
+          future-answers = λ i h g. l .future-answers i (omega arith) g;
+          ended = λ i h n. l .ended i (omega arith) (closed-open o);
+          opened = λ k q. absurd (closed-open (eo ∙ o) q);
+          work = w;
+        }
+
     -- row k is begun
-    pub own-start : r .opened ≡ Closed → r .begun < count rows p → (ps : List Process) → Local rows start Late p (suc t) (apply quiet ps s) (started (first rows p + r .begun) r)
+    pub own-start : r .opened ≡ Closed → r .begun < count rows p → r .stored ≡ None → r .checkpoint ≡ false → (ps : List Process) → Local rows start Late p (suc t) (apply quiet ps s) (started (first rows p + r .begun) r)
     unfolding apply due
-    own-start o h ps =
+    own-start o h st ch ps =
         record {
           fits = omega arith;
           future-log = λ i g j. l .future-log i (omega arith) j;
@@ -139,9 +152,9 @@ module _ (rows : List Row) (start : List ℕ) (Late : Times) where
                 begun = refl;
                 row = refl;
                 unanswered = l .future-answers (r .begun) (omega arith) h;
-                stands = l .future-log (r .begun) (omega arith) h;
+                stands = rw (st, ch) (l .future-log (r .begun) (omega arith) h);
               });
-          work = working (first rows p + r .begun) refl (refl, refl);
+          work = working (first rows p + r .begun) refl (st, ch);
         }
 
     -- only the status changes
@@ -296,7 +309,7 @@ module _ (rows : List Row) (start : List ℕ) (good : (k : ℕ) → Good (length
     own-A3 : (x a ta : ℕ) (ans : Maybe) → AtStage rows start Late p k t (s .words) (s .log) r A3 x a ans → Own rows start Late p t s r (moveOf rows (s .log) p t k (rowNumbered rows k .word) r (decide (rowNumbered rows k) p t word r A3 x a ta ans))
     unfolding decide due
     own-A3 x a ta ans h =
-        own-quiet (with-checkpoint (Busy A4 x a ta ans) r) refl refl (rw (h .0, h .1, unmatched a x (h .2) (h .3))) (working k o ((h .0, refl, reading-later a x (h .2), h .3)))
+        own-quiet (with-checkpoint (Busy A4 x a ta ans) true r) refl refl (rw (h .0, h .1, unmatched a x (h .2) (h .3))) (working k o ((h .0, refl, reading-later a x (h .2), h .3)))
 
     own-A6 : (x a ta : ℕ) (ans : Maybe) → AtStage rows start Late p k t (s .words) (s .log) r A6 x a ans → Own rows start Late p t s r (moveOf rows (s .log) p t k (rowNumbered rows k .word) r (decide (rowNumbered rows k) p t word r A6 x a ta ans))
     unfolding decide due

@@ -15,10 +15,10 @@ use Rattle.runfile.specs.Actions.{named}
 use Rattle.machine.specs.declared.Process.{Process}
 use Rattle.machine.specs.declared.Opened.the-variants.{Row as Open}
 use Rattle.machine.specs.declared.Status.{Status}
-use Rattle.machine.specs.declared.Status.the-variants.{Down, Idle, Busy}
+use Rattle.machine.specs.declared.Status.the-variants.{Down, Idle, N2, N3, Busy}
 use Rattle.machine.specs.Records.{waked}
 use Rattle.machine.specs.Machine.{State, Effect, quiet, swaps, logs, replies, logAfter, procAt, step, after}
-use Rattle.machine.specs.Laws.{Turned, still, begins, works, on, ends, closed-open, each-after}
+use Rattle.machine.specs.Laws.{Turned, still, first-store, second-store, third-store, works, on, ends, closed-open, each-after}
 use Rattle.replay.specs.Logs.{Sorted, put}
 use Rattle.replay.specs.Replay.{Good}
 use Rattle.demand3.specs.Statement.{of}
@@ -35,15 +35,19 @@ pub record Passed (rows : List Row) (p i : ℕ) (r : Process) : Type 0 where
 module _ (rows : List Row) (p i : ℕ) where
   passed-turned : (r next : Process) → Passed rows p i r → Turned rows p r next → Passed rows p i next
   passed-turned r next h still = h
-  passed-turned r next h (begins l) =
+  passed-turned r next h (first-store l) = record { begun = h .begun; shut = h .shut }
+  passed-turned r next h (second-store e) = record { begun = h .begun; shut = h .shut }
+  passed-turned r next h (third-store e) =
       let g : i < r .begun = h .begun in
       record { begun = omega arith; shut = λ e. let q : first rows p + r .begun ≡ first rows p + i = cc in omega arith }
-  passed-turned r next h (works k q (on o b)) = record { begun = subst (λ n. i < n) (sym b) (h .begun); shut = λ e. h .shut (sym o ∙ e) }
+  passed-turned r next h (works k q (on o b n)) = record { begun = subst (λ n. i < n) (sym b) (h .begun); shut = λ e. h .shut (sym o ∙ e) }
   passed-turned r next h (works k q (ends o idle b)) = record { begun = subst (λ n. i < n) (sym b) (h .begun); shut = λ e. closed-open (sym o ∙ e) }
 
   passed-waked : (r : Process) (status : Status) → Passed rows p i r → Passed rows p i (waked r status)
   passed-waked r Down h = record { begun = h .begun; shut = h .shut }
   passed-waked r Idle h = h
+  passed-waked r N2 h = h
+  passed-waked r N3 h = h
   passed-waked r (Busy stage seen readAt triedAt answer) h = h
 
   Of : ℕ → Process → Type 0

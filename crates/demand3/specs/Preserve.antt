@@ -5,7 +5,7 @@ use mathlib.Core.Path.{_≡_, refl, sym, _∙_, ap, subst}
 use mathlib.Core.Bool.{Bool, true, false, cond}
 use mathlib.Core.List.{List, [], _∷_, map}
 use lib.Dec.{eqb, ltb}
-use lib.ListN.{length, getD, set, length-set, length-map, replicate, length-replicate, List·getD-eq-default}
+use lib.ListN.{length, getD, set, length-set, length-map, length-replicate, List·getD-eq-default}
 use Rattle.machine.specs.Machine.{Effect, quiet, swaps, logs, replies, Move, State, alone, procAt, apply, applied, moveOf, turn, begin, act, step, after}
 use Rattle.runfile.specs.declared.Row.{Row}
 use Rattle.machine.specs.declared.Process.{Process}
@@ -14,7 +14,7 @@ use Rattle.machine.specs.declared.Maybe.the-variants.{Nothing as None}
 use Rattle.machine.specs.declared.Opened.{Opened}
 use Rattle.machine.specs.declared.Opened.the-variants.{Nothing as Closed, Row as Open}
 use Rattle.machine.specs.declared.Status.{Status}
-use Rattle.machine.specs.declared.Status.the-variants.{Down, Idle, Busy}
+use Rattle.machine.specs.declared.Status.the-variants.{Down, Idle, N2, N3, Busy}
 use Rattle.word.specs.Word.{value}
 use Rattle.runfile.specs.Operations.{rowNumbered, first, count}
 use native.Mathlib.Omega.{arith}
@@ -24,13 +24,14 @@ use borrow.Author.Tests.{eqb-true, eqb-false, ltb-true, ltb-false}
 use Rattle.runfile.specs.Actions.{Action, step as steps, crash as crashes, wake as wakes, crashAll as crashesAll, none as idles, actionOf}
 use Rattle.machine.specs.declared.Turn.the-variants.{Still, Quiet}
 use Rattle.machine.specs.Steps.{atWork, stepTurn}
-use Rattle.machine.specs.Records.{rowOpen, fresh, with-status, started, crashed, waked, wokenUp}
+use Rattle.machine.specs.Records.{rowOpen, fresh, with-status, with-stored, with-checkpoint, crashed, waked, wokenUp}
+use Rattle.machine.specs.Laws.{fresh-at}
 use Rattle.replay.specs.Replay.{Good, final}
 use Rattle.demand3.specs.Statement.{of}
 use Rattle.demand3.specs.Invariant.{Times, working, StatusOk, Local, Global, Inv}
 use Rattle.demand3.specs.Frames.{Frame, local-frame}
 use Rattle.demand3.specs.Effects.{global-effect, global-same, frame-effect, frame-quiet}
-use Rattle.demand3.specs.Own.{Own, calm, busy, own-start, own-status, own-stage, closed-open}
+use Rattle.demand3.specs.Own.{Own, calm, busy, own-closed, own-start, own-status, own-stage, closed-open}
 
 pub apply-processes : (f : Effect) (ps : List Process) (s : State) → apply f ps s .processes ≡ ps
 unfolding apply
@@ -61,9 +62,11 @@ module _ (rows : List Row) (start : List ℕ) (good : (k : ℕ) → Good (length
     own-turn p r g l Down h = calm refl (λ ps. local-same p ps r l)
     own-turn p r g l Idle h = go (ltb (r .begun) (count rows p)) refl
       where
-        go : (c : Bool) → ltb (r .begun) (count rows p) ≡ c → Own rows start Late p t s r (moveOf rows (s .log) p t (rowOpen (r .opened)) (rowNumbered rows (rowOpen (r .opened)) .word) r (cond c (Quiet (started (first rows p + r .begun) r)) Still))
-        go true q = calm refl (λ ps. own-start rows start Late p t s r l h (ltb-true (r .begun) (count rows p) q) ps)
+        go : (c : Bool) → ltb (r .begun) (count rows p) ≡ c → Own rows start Late p t s r (moveOf rows (s .log) p t (rowOpen (r .opened)) (rowNumbered rows (rowOpen (r .opened)) .word) r (cond c (Quiet (with-stored N2 None r)) Still))
+        go true q = calm refl (λ ps. own-closed rows start Late p t s r l h (with-stored N2 None r) refl refl ps (h, ltb-true (r .begun) (count rows p) q, refl))
         go false q = calm refl (λ ps. local-same p ps r l)
+    own-turn p r g l N2 h = calm refl (λ ps. own-closed rows start Late p t s r l (h .0) (with-checkpoint N3 false r) refl refl ps (h .0, h .1, h .2, refl))
+    own-turn p r g l N3 h = calm refl (λ ps. own-start rows start Late p t s r l (h .0) (h .1) (h .2) (h .3) ps)
     own-turn p r g l (Busy stage x a ta ans) (working k o h) =
         subst (λ o. Own rows start Late p t s r (moveOf rows (s .log) p t (rowOpen o) (rowNumbered rows (rowOpen o) .word) r (atWork (rowNumbered rows (rowOpen o)) p t (getD (s .words) (rowNumbered rows (rowOpen o) .word) 0) r o stage x a ta ans))) (sym o)
         (own-stage rows start good Late mono p t s r g l now k o stage x a ta ans h)
@@ -78,6 +81,8 @@ module _ (rows : List Row) (start : List ℕ) (good : (k : ℕ) → Good (length
         go Closed e = calm refl (λ ps. own-status rows start Late p t s r l Idle ps e)
         go (Open k) e = calm refl (λ ps. own-status rows start Late p t s r l (Busy V1 0 0 0 None) ps (working k e tt))
     own-wake p r l Idle = calm refl (λ ps. local-same p ps r l)
+    own-wake p r l N2 = calm refl (λ ps. local-same p ps r l)
+    own-wake p r l N3 = calm refl (λ ps. local-same p ps r l)
     own-wake p r l (Busy stage x a ta ans) = calm refl (λ ps. local-same p ps r l)
 
     module _ (P : ℕ) (v : Inv rows start Late P t s) where
@@ -150,8 +155,8 @@ module _ (rows : List Row) (start : List ℕ) (good : (k : ℕ) → Good (length
       unfolding act turn stepTurn
       inv-act steps p = go (ltb p P) refl
         where
-          idle : P ≤ p → (c : Bool) → Inv rows start Late P (suc t) (applied p (moveOf rows (s .log) p t 0 (rowNumbered rows 0 .word) fresh (cond c (Quiet (started (first rows p + 0) fresh)) Still)) s)
-          idle h true = inv-absent p (started (first rows p + 0) fresh) h
+          idle : P ≤ p → (c : Bool) → Inv rows start Late P (suc t) (applied p (moveOf rows (s .log) p t 0 (rowNumbered rows 0 .word) fresh (cond c (Quiet (with-stored N2 None fresh)) Still)) s)
+          idle h true = inv-absent p (with-stored N2 None fresh) h
           idle h false = inv-absent p fresh h
 
           go : (c : Bool) → ltb p P ≡ c → Inv rows start Late P (suc t) (applied p (turn rows p t (s .words) (s .log) (procAt p s) (procAt p s .status)) s)
@@ -186,11 +191,6 @@ module _ (rows : List Row) (start : List ℕ) (good : (k : ℕ) → Good (length
   inv-after P t (byte ∷ bytes) s now v =
       rw (add-suc t (length bytes), ← (suc-add t (length bytes)))
       (inv-after P (suc t) bytes (step rows t byte s) (λ k a h. now k a (omega arith)) (inv-step t (λ k. now k t (omega arith)) s P v byte))
-
-fresh-at : (P p : ℕ) → getD (replicate P fresh) p fresh ≡ fresh
-fresh-at zero p = refl
-fresh-at (suc P) zero = refl
-fresh-at (suc P) (suc p) = fresh-at P p
 
 pub inv-begin : (rows : List Row) (Late : Times) (P : ℕ) (words : List ℕ) → Inv rows (map value words) Late P 0 (begin P words)
 unfolding begin procAt final of

@@ -1,9 +1,9 @@
--- Two wrong machines, held against demand 3. Each differs from the machine in one rule, and each has a short run whose log, answers and words
+-- Three wrong machines, held against demand 3. Each differs from the machine in one rule, and each has a short run whose log, answers and words
 -- break the statement, by computation: so it is not a statement that any machine would meet.
 -- Assumes nothing.
 use Prim.Native.Nat.{ℕ, suc, _+_, _<_}
 use mathlib.Core.Path.{_≡_, refl, sym, _∙_, ap, subst}
-use mathlib.Core.Bool.{cond}
+use mathlib.Core.Bool.{cond, false}
 use mathlib.Core.List.{List, [], _∷_, _++_, map}
 use native.Mathlib.Omega.{arith}
 use lib.Dec.{eqb}
@@ -19,27 +19,28 @@ use Rattle.machine.specs.declared.Maybe.{Maybe}
 use Rattle.machine.specs.declared.Maybe.the-variants.{Nothing as None, Is}
 use Rattle.machine.specs.declared.Opened.the-variants.{Nothing as Closed}
 use Rattle.machine.specs.declared.Process.{Process}
-use Rattle.machine.specs.declared.Stage.the-variants.{V4, V6}
+use Rattle.machine.specs.declared.Stage.the-variants.{A1, V4, V6}
 use Rattle.machine.specs.declared.Status.{Status}
-use Rattle.machine.specs.declared.Status.the-variants.{Down, Idle, Busy}
+use Rattle.machine.specs.declared.Status.the-variants.{Down, Idle, N2, N3, Busy}
 use Rattle.machine.specs.declared.Turn.{Turn}
 use Rattle.machine.specs.declared.Turn.the-variants.{Still, Quiet, Swaps, Logs, Loses, Replies}
 use Rattle.machine.specs.Stages.{stageNumber}
-use Rattle.machine.specs.Records.{with-status, rowOpen}
+use Rattle.machine.specs.Records.{with-status, with-checkpoint, started, rowOpen}
 use Rattle.machine.specs.Steps.{spoken, tried, storing, decide, stepTurn}
 use Rattle.machine.specs.Machine.{State, Move, moveOf, applied, apply, procAt, turn, act, step, after, begin}
 use Rattle.replay.specs.Plain.{answerOf, leaves}
-use Rattle.demand3.specs.Statement.{of, Once, Logged, ownerOf, Ended, Demand3}
+use Rattle.demand3.specs.Statement.{of, Once, Logged, ownerOf, StillOpen, Ended, Demand3}
 use Rattle.machine.specs.Laws.{closed-open}
 
--- A machine whose steps come to something else: `rule` changes what a step of a process on a row comes to, the row's word being `now`.
-module _ (rule : Row → (now : ℕ) → Process → Turn → Turn) (rows : List Row) where
+-- A machine whose steps come to something else: `rule` changes what a step of a process on a row comes to, the row's word being `now` and
+-- `next` the row that the process is to begin next.
+module _ (rule : Row → (now next : ℕ) → Process → Turn → Turn) (rows : List Row) where
   pub turnBy : (p t : ℕ) → State → Process → Move
   turnBy p t s r =
       let k = rowOpen (r .opened) in
       let row = rowNumbered rows k in
       let now = getD (s .words) (row .word) 0 in
-      moveOf rows (s .log) p t k (row .word) r (rule row now r (stepTurn row p t now (first rows p) (count rows p) r (r .status)))
+      moveOf rows (s .log) p t k (row .word) r (rule row now (first rows p + r .begun) r (stepTurn row p t now (first rows p) (count rows p) r (r .status)))
 
   pub actBy : (t byte : ℕ) → Action → State → State
   actBy t byte steps s = applied (named byte) (turnBy (named byte) t s (procAt (named byte) s)) s
@@ -60,18 +61,20 @@ swap p old new = record { process = p; kind = 1; word = 0; old = old; new = new 
 pub recovering : Row → ℕ → Process → Status → Turn → Turn
 recovering row now r Down u = u
 recovering row now r Idle u = u
+recovering row now r N2 u = u
+recovering row now r N3 u = u
 recovering row now r (Busy stage seen readAt triedAt answer) u =
     cond (eqb (stageNumber stage) 8) (Quiet (with-status (Busy (cond (eqb (value now) (row .new)) V4 V6) now readAt triedAt answer) r)) u
 
-pub byValue : Row → ℕ → Process → Turn → Turn
-byValue row now r u = recovering row now r (r .status) u
+pub byValue : Row → (now next : ℕ) → Process → Turn → Turn
+byValue row now next r u = recovering row now r (r .status) u
 
 -- two workers, 7 to 8; worker 0 is cut off before its swap, worker 1 makes it, and worker 0 takes it for its own
 pub captureRows : List Row
 captureRows = swap 0 7 8 ∷ swap 1 7 8 ∷ []
 
 pub captureSchedule : List ℕ
-captureSchedule = replicate 4 0x00 ++ (replicate 5 0x01 ++ (0x10 ∷ 0x20 ∷ replicate 5 0x00))
+captureSchedule = replicate 6 0x00 ++ (replicate 7 0x01 ++ (0x10 ∷ 0x20 ∷ replicate 5 0x00))
 
 pub captured : State
 captured = afterBy byValue captureRows 0 captureSchedule (begin 2 (7 ∷ []))
@@ -87,7 +90,7 @@ row-ended = record { begun = subst (λ n. 0 < n) (sym begun) (omega arith); shut
     shut : procAt 0 (after captureRows 0 captureSchedule (begin 2 (7 ∷ []))) .opened ≡ Closed
     shut = refl
 
-told-true : of 0 (captured .answers) ≡ record { position = 15; process = 0; row = 0; verdict = 1; value = 0 } ∷ []
+told-true : of 0 (captured .answers) ≡ record { position = 19; process = 0; row = 0; verdict = 1; value = 0 } ∷ []
 unfolding captured captureRows captureSchedule swap byValue recovering turnBy actBy afterBy of rowNumbered first count valueIn bitIn swappedIn bitOf turnOf flipsIn isTrue onePast place insert spoken tried storing decide stepTurn applied apply procAt turn act step after begin
 told-true = refl
 
@@ -104,20 +107,20 @@ capture-breaks d = let t = d .ended 0 (omega arith) row-ended in go (t .answer) 
     go (Is x) a l = let same = sym not-logged ∙ l .once in let z : _≡_ {A = ℕ} 0 1 = cc in omega arith
 
 -- 2. A lost swap logged at its A4's position in place of that of the swap that beat it
-pub atItsA4 : Row → ℕ → Process → Turn → Turn
-atItsA4 row now r Still = Still
-atItsA4 row now r (Quiet next) = Quiet next
-atItsA4 row now r (Swaps next x) = Swaps next x
-atItsA4 row now r (Logs next q a) = Logs next q a
-atItsA4 row now r (Loses next after otherwise) = Logs next otherwise False
-atItsA4 row now r (Replies next said) = Replies next said
+pub atItsA4 : Row → (now next : ℕ) → Process → Turn → Turn
+atItsA4 row now k r Still = Still
+atItsA4 row now k r (Quiet next) = Quiet next
+atItsA4 row now k r (Swaps next x) = Swaps next x
+atItsA4 row now k r (Logs next q a) = Logs next q a
+atItsA4 row now k r (Loses next after otherwise) = Logs next otherwise False
+atItsA4 row now k r (Replies next said) = Replies next said
 
 -- worker 0 has read 7; worker 1 moves 7 to 9 and worker 2 moves it back; worker 0 loses its swap, at a time when the value is 7 again
 pub backRows : List Row
 backRows = swap 0 7 8 ∷ swap 1 7 9 ∷ swap 2 9 7 ∷ []
 
 pub backSchedule : List ℕ
-backSchedule = replicate 2 0x00 ++ (replicate 5 0x01 ++ (replicate 5 0x02 ++ replicate 4 0x00))
+backSchedule = replicate 4 0x00 ++ (replicate 7 0x01 ++ (replicate 7 0x02 ++ replicate 4 0x00))
 
 pub back : State
 back = afterBy atItsA4 backRows 0 backSchedule (begin 3 (7 ∷ []))
@@ -125,3 +128,37 @@ back = afterBy atItsA4 backRows 0 backSchedule (begin 3 (7 ∷ []))
 pub back-breaks : Demand3 backRows 3 (7 ∷ []) backSchedule (back .log) (back .answers) (map value (back .words)) → ⊥
 unfolding back backRows backSchedule swap atItsA4 turnBy actBy afterBy rowNumbered first count valueIn bitIn swappedIn bitOf turnOf flipsIn isTrue onePast place insert spoken tried storing decide stepTurn applied apply procAt turn act step after begin names isSwap firstSwap answerOf leaves
 back-breaks d = let z : _≡_ {A = ℕ} 0 1 = ap (λ d. d .verdict) (d .replayed .1 .1 .0) in omega arith
+
+-- 3. The row opened before the checkpoint is cleared
+pub announcing : ℕ → Process → Status → Turn → Turn
+announcing k r Down u = u
+announcing k r Idle u = u
+announcing k r N2 u = Quiet (with-status N3 (started k r))
+announcing k r N3 u = Quiet (with-checkpoint (Busy A1 0 0 0 None) false r)
+announcing k r (Busy stage seen readAt triedAt answer) u = u
+
+pub opensEarly : Row → (now next : ℕ) → Process → Turn → Turn
+opensEarly row now next r u = announcing next r (r .status) u
+
+-- a worker has swapped for its first row and is cut off between the last two stores of its second: it wakes to the checkpoint of the first
+pub earlyRows : List Row
+earlyRows = swap 0 7 8 ∷ swap 0 8 9 ∷ []
+
+pub earlySchedule : List ℕ
+earlySchedule = replicate 11 0x00 ++ (0x10 ∷ 0x20 ∷ replicate 5 0x00)
+
+pub early : State
+early = afterBy opensEarly earlyRows 0 earlySchedule (begin 1 (7 ∷ []))
+
+-- the machine itself has the second row open after these bytes; the wrong one has told it true
+row-open : StillOpen earlyRows 1 (after earlyRows 0 earlySchedule (begin 1 (7 ∷ [])))
+unfolding earlyRows earlySchedule swap rowNumbered first count valueIn bitIn swappedIn bitOf turnOf flipsIn isTrue onePast place insert spoken tried storing decide stepTurn applied apply procAt turn act step after begin
+row-open = refl
+
+told-early : of 1 (early .answers) ≡ record { position = 17; process = 0; row = 1; verdict = 1; value = 0 } ∷ []
+unfolding early earlyRows earlySchedule swap opensEarly announcing turnBy actBy afterBy of rowNumbered first count valueIn bitIn swappedIn bitOf turnOf flipsIn isTrue onePast place insert spoken tried storing decide stepTurn applied apply procAt turn act step after begin
+told-early = refl
+
+pub early-breaks : Demand3 earlyRows 1 (7 ∷ []) earlySchedule (early .log) (early .answers) (map value (early .words)) → ⊥
+unfolding earlyRows
+early-breaks d = let same = sym told-early ∙ d .still-open 1 (omega arith) row-open .unanswered in let z : _≡_ {A = ℕ} 0 1 = cc in omega arith

@@ -14,7 +14,7 @@ use lib.Seq.{getD-set-same, getD-set-other, set-out}
 use borrow.Author.Tests.{ltb-true, ltb-false, eqb-true, eqb-false}
 use Rattle.runfile.specs.declared.Row.{Row}
 use Rattle.runfile.specs.Actions.{Action, step as steps, crash as crashes, wake as wakes, crashAll as crashesAll, none as idles, action, named}
-use Rattle.runfile.specs.Operations.{rowNumbered, first, count, newOf}
+use Rattle.runfile.specs.Operations.{rowNumbered, first, count, reads, newOf}
 use Rattle.runfile.specs.Lines.{last-fits}
 use Rattle.rows.specs.declared.Entry.{Entry}
 use Rattle.machine.specs.declared.Process.{Process}
@@ -26,11 +26,11 @@ use Rattle.machine.specs.declared.Maybe.the-variants.{Nothing as None, I
 use Rattle.machine.specs.declared.Opened.{Opened}
 use Rattle.machine.specs.declared.Opened.the-variants.{Nothing as Closed, Row as Open}
 use Rattle.machine.specs.declared.Status.{Status}
-use Rattle.machine.specs.declared.Status.the-variants.{Down, Idle, Busy}
-use Rattle.machine.specs.Records.{fresh, with-status, with-stored, started, crashed, waked, wokenUp, rowOpen, WorkOpen}
+use Rattle.machine.specs.declared.Status.the-variants.{Down, Idle, N2, N3, Busy}
+use Rattle.machine.specs.Records.{fresh, with-status, with-stored, with-checkpoint, Announcing, started, crashed, waked, wokenUp, rowOpen, WorkOpen}
 use Rattle.machine.specs.declared.Turn.the-variants.{Still, Quiet, Swaps, Logs, Loses}
-use Rattle.word.specs.Word.{value, swapped}
-use Rattle.machine.specs.Steps.{tried, storing, decide, atWork, stepTurn}
+use Rattle.word.specs.Word.{value, valueIn, swapped}
+use Rattle.machine.specs.Steps.{afterRead, tried, storing, decide, atWork, stepTurn}
 use Rattle.machine.specs.Machine.{State, processOf, turn, apply, applied, procAt, act, step, after, begin}
 
 pub after-join : (rows : List Row) (t : ℕ) (a b : List ℕ) (s : State) → after rows t (a ++ b) s ≡ after rows (t + length a) b (after rows t a s)
@@ -45,57 +45,69 @@ after-snoc rows t a b s = after-join rows t a (b ∷ []) s
 
 -- a turn of a process in the midst of work leaves it at work on the same row, or idle with none open; it begins no row
 pub data Goes (r : Process) : Process → Type 0 where
-  on : {next : Process} → next .opened ≡ r .opened → next .begun ≡ r .begun → Goes r next
+  on : {next : Process} → next .opened ≡ r .opened → next .begun ≡ r .begun → (Announcing (next .status) → ⊥) → Goes r next
   ends : {next : Process} → next .opened ≡ Closed → next .status ≡ Idle → next .begun ≡ r .begun → Goes r next
+
+not-announcing : (row : Row) (now t : ℕ) → Announcing (afterRead row now t) → ⊥
+not-announcing row now t = go (reads row) (eqb (valueIn 16 now) (row .old))
+  where
+    go : (c d : Bool) → Announcing (cond c (Busy A5 now t 0 (Is (Value (valueIn 16 now)))) (cond d (Busy A2 now t 0 None) (Busy A5 now t 0 (Is False)))) → ⊥
+    go true d x = x
+    go false true x = x
+    go false false x = x
 
 pub goes : (row : Row) (p t now : ℕ) (r : Process) (stage : Stage) (seen readAt triedAt : ℕ) (answer : Maybe) → Goes r (processOf r (decide row p t now r stage seen readAt triedAt answer))
 unfolding decide tried storing
-goes row p t now r A1 seen readAt triedAt answer = on refl refl
-goes row p t now r A2 seen readAt triedAt answer = on refl refl
-goes row p t now r A3 seen readAt triedAt answer = on refl refl
+goes row p t now r A1 seen readAt triedAt answer = on refl refl (not-announcing row now t)
+goes row p t now r A2 seen readAt triedAt answer = on refl refl (λ x. x)
+goes row p t now r A3 seen readAt triedAt answer = on refl refl (λ x. x)
 goes row p t now r A4 seen readAt triedAt answer = go (eqb now seen)
   where
     go : (c : Bool) → Goes r (processOf r (cond c (Swaps (with-status (Busy A5 seen readAt t (Is True)) r) (swapped p (newOf row (value seen)) seen)) (Quiet (with-status (Busy A5 seen readAt t (Is False)) r))))
-    go true = on refl refl
-    go false = on refl refl
-goes row p t now r A5 seen readAt triedAt None = on refl refl
-goes row p t now r A5 seen readAt triedAt (Is True) = on refl refl
-goes row p t now r A5 seen readAt triedAt (Is (Value v)) = on refl refl
+    go true = on refl refl (λ x. x)
+    go false = on refl refl (λ x. x)
+goes row p t now r A5 seen readAt triedAt None = on refl refl (λ x. x)
+goes row p t now r A5 seen readAt triedAt (Is True) = on refl refl (λ x. x)
+goes row p t now r A5 seen readAt triedAt (Is (Value v)) = on refl refl (λ x. x)
 goes row p t now r A5 seen readAt triedAt (Is False) = go (eqb (value seen) (row .old))
   where
     go : (c : Bool) → Goes r (processOf r (cond c (Loses (with-stored (Busy A6 seen readAt triedAt (Is False)) (Is False) r) readAt triedAt) (Logs (with-stored (Busy A6 seen readAt triedAt (Is False)) (Is False) r) readAt False)))
-    go true = on refl refl
-    go false = on refl refl
+    go true = on refl refl (λ x. x)
+    go false = on refl refl (λ x. x)
 goes row p t now r A6 seen readAt triedAt answer = ends refl refl refl
-goes row p t now r V1 seen readAt triedAt answer = on refl refl
-goes row p t now r V2 seen readAt triedAt answer = on refl refl
-goes row p t now r V3 seen readAt triedAt answer = on refl refl
-goes row p t now r V4 seen readAt triedAt answer = on refl refl
+goes row p t now r V1 seen readAt triedAt answer = on refl refl (λ x. x)
+goes row p t now r V2 seen readAt triedAt answer = on refl refl (λ x. x)
+goes row p t now r V3 seen readAt triedAt answer = on refl refl (λ x. x)
+goes row p t now r V4 seen readAt triedAt answer = on refl refl (λ x. x)
 goes row p t now r V5 seen readAt triedAt answer = ends refl refl refl
 goes row p t now r V6 seen readAt triedAt answer = ends refl refl refl
 
--- What a step of process p makes of its record: nothing; a row begun; work gone on with.
+-- What a step of process p makes of its record: nothing; one of the three stores that announce a row; work gone on with.
 pub data Turned (rows : List Row) (p : ℕ) (r : Process) : Process → Type 0 where
   still : Turned rows p r r
-  begins : r .begun < count rows p → Turned rows p r (started (first rows p + r .begun) r)
+  first-store : r .begun < count rows p → Turned rows p r (with-stored N2 None r)
+  second-store : r .status ≡ N2 → Turned rows p r (with-checkpoint N3 false r)
+  third-store : r .status ≡ N3 → Turned rows p r (started (first rows p + r .begun) r)
   works : {next : Process} → (k : ℕ) → r .opened ≡ Open k → Goes r next → Turned rows p r next
 
-pub turned : (rows : List Row) (p t : ℕ) (words : List ℕ) (log : List Entry) (r : Process) (status : Status) → Turned rows p r (turn rows p t words log r status .process)
+pub turned : (rows : List Row) (p t : ℕ) (words : List ℕ) (log : List Entry) (r : Process) → Turned rows p r (turn rows p t words log r (r .status) .process)
 unfolding turn stepTurn
-turned rows p t words log r status = go status
+turned rows p t words log r = go (r .status) refl
   where
-    start : (c : Bool) → ltb (r .begun) (count rows p) ≡ c → Turned rows p r (processOf r (cond c (Quiet (started (first rows p + r .begun) r)) Still))
-    start true l = begins (ltb-true (r .begun) (count rows p) l)
+    start : (c : Bool) → ltb (r .begun) (count rows p) ≡ c → Turned rows p r (processOf r (cond c (Quiet (with-stored N2 None r)) Still))
+    start true l = first-store (ltb-true (r .begun) (count rows p) l)
     start false l = still
 
     work : (o : Opened) → r .opened ≡ o → (row : Row) (now : ℕ) (stage : Stage) (seen readAt triedAt : ℕ) (answer : Maybe) → Turned rows p r (processOf r (atWork row p t now r o stage seen readAt triedAt answer))
     work Closed q row now stage seen readAt triedAt answer = still
     work (Open k) q row now stage seen readAt triedAt answer = works k q (goes row p t now r stage seen readAt triedAt answer)
 
-    go : (status : Status) → Turned rows p r (processOf r (stepTurn (rowNumbered rows (rowOpen (r .opened))) p t (getD words (rowNumbered rows (rowOpen (r .opened)) .word) 0) (first rows p) (count rows p) r status))
-    go Down = still
-    go Idle = start (ltb (r .begun) (count rows p)) refl
-    go (Busy stage seen readAt triedAt answer) = work (r .opened) refl _ _ stage seen readAt triedAt answer
+    go : (status : Status) → r .status ≡ status → Turned rows p r (processOf r (stepTurn (rowNumbered rows (rowOpen (r .opened))) p t (getD words (rowNumbered rows (rowOpen (r .opened)) .word) 0) (first rows p) (count rows p) r status))
+    go Down e = still
+    go Idle e = start (ltb (r .begun) (count rows p)) refl
+    go N2 e = second-store e
+    go N3 e = third-store e
+    go (Busy stage seen readAt triedAt answer) e = work (r .opened) refl _ _ stage seen readAt triedAt answer
 
 -- the record of q after process p has been given another
 record-set : (l : List Process) (p q : ℕ) (r : Process) → ((q ≡ p) × (getD (set l p r) q fresh ≡ r)) ⊎ (getD (set l p r) q fresh ≡ getD l q fresh)
@@ -129,7 +141,7 @@ module _ (rows : List Row) (Q : ℕ → Process → Type 0)
 
   each-act : (t : ℕ) (a : Action) (p : ℕ) (s : State) → Each s → Each (act rows t a p s)
   unfolding act applied apply Each procAt
-  each-act t steps p s h = each-set p _ s h (steps-keep p (procAt p s) _ (h p) (turned rows p t (s .words) (s .log) (procAt p s) (procAt p s .status)))
+  each-act t steps p s h = each-set p _ s h (steps-keep p (procAt p s) _ (h p) (turned rows p t (s .words) (s .log) (procAt p s)))
   each-act t crashes p s h = each-set p _ s h (crashes-keep p (procAt p s) (h p))
   each-act t wakes p s h = each-set p _ s h (wakes-keep p (procAt p s) (h p))
   each-act t crashesAll p s h = λ q. go q (ltb q (length (s .processes))) refl
@@ -148,45 +160,66 @@ module _ (rows : List Row) (Q : ℕ → Process → Type 0)
   each-after t [] s h = h
   each-after t (byte ∷ bytes) s h = each-after (suc t) bytes (step rows t byte s) (each-act t (action byte) (named byte) s h)
 
--- an open row is a row of the file, and in the midst of work a row is open
-pub record Sane (rows : List Row) (r : Process) : Type 0 where
+-- an open row is a row of the file, in the midst of work a row is open, and in the midst of the announcement p has rows left
+pub record Sane (rows : List Row) (p : ℕ) (r : Process) : Type 0 where
   pub in-file : (k : ℕ) → r .opened ≡ Open k → k < length rows
   pub works : WorkOpen (r .status) (r .opened)
+  pub left : Announcing (r .status) → r .begun < count rows p
 
 open-any : (status : Status) (opened : Opened) (k : ℕ) → opened ≡ Open k → WorkOpen status opened
 open-any Down opened k e = tt
 open-any Idle opened k e = tt
+open-any N2 opened k e = tt
+open-any N3 opened k e = tt
 open-any (Busy stage seen readAt triedAt answer) opened k e = (k, e)
+
+-- at first every process, there or not, has a fresh record
+pub fresh-at : (P p : ℕ) → getD (replicate P fresh) p fresh ≡ fresh
+fresh-at zero p = refl
+fresh-at (suc P) zero = refl
+fresh-at (suc P) (suc p) = fresh-at P p
 
 pub closed-open : {A : Type 0} {k : ℕ} → Closed ≡ Open k → A
 closed-open e = absurd (let z : _≡_ {A = ℕ} 0 1 = cc in omega arith)
 
 module _ (rows : List Row) where
-  sane-turned : (p : ℕ) (r next : Process) → Sane rows r → Turned rows p r next → Sane rows next
+  sane-turned : (p : ℕ) (r next : Process) → Sane rows p r → Turned rows p r next → Sane rows p next
   sane-turned p r next h still = h
-  sane-turned p r next h (begins l) = record {
-    in-file = λ j x. (let same : first rows p + r .begun ≡ j = cc in let f = last-fits rows p in omega arith);
+  sane-turned p r next h (first-store l) = record { in-file = h .in-file; works = tt; left = λ _. l }
+  sane-turned p r next h (second-store e) = record { in-file = h .in-file; works = tt; left = λ _. h .left (subst Announcing (sym e) tt) }
+  sane-turned p r next h (third-store e) = record {
+    in-file = λ j x. (let l : r .begun < count rows p = h .left (subst Announcing (sym e) tt) in let same : first rows p + r .begun ≡ j = cc in let f = last-fits rows p in omega arith);
     works = (first rows p + r .begun, refl);
+    left = λ x. absurd x;
   }
-  sane-turned p r next h (works k q (on e b)) = record { in-file = λ j x. h .in-file j (sym e ∙ x); works = open-any (next .status) (next .opened) k (e ∙ q) }
-  sane-turned p r next h (works k q (ends e i b)) = record { in-file = λ j x. closed-open (sym e ∙ x); works = subst (λ st. WorkOpen st (next .opened)) (sym i) tt }
+  sane-turned p r next h (works k q (on e b n)) = record { in-file = λ j x. h .in-file j (sym e ∙ x); works = open-any (next .status) (next .opened) k (e ∙ q); left = λ x. absurd (n x) }
+  sane-turned p r next h (works k q (ends e i b)) = record {
+    in-file = λ j x. closed-open (sym e ∙ x);
+    works = subst (λ st. WorkOpen st (next .opened)) (sym i) tt;
+    left = λ x. absurd (subst Announcing i x);
+  }
 
-  sane-waked : (r : Process) (status : Status) → Sane rows r → Sane rows (waked r status)
-  sane-waked r Down h = record { in-file = h .in-file; works = go (r .opened) refl }
+  sane-waked : (p : ℕ) (r : Process) (status : Status) → Sane rows p r → Sane rows p (waked r status)
+  sane-waked p r Down h = record { in-file = h .in-file; works = go (r .opened) refl; left = λ x. absurd (quiet (r .opened) x) }
     where
       go : (o : Opened) → r .opened ≡ o → WorkOpen (wokenUp o) (r .opened)
       go Closed q = tt
       go (Open k) q = (k, q)
-  sane-waked r Idle h = h
-  sane-waked r (Busy stage seen readAt triedAt answer) h = h
 
-  sane-fresh : (P q : ℕ) → Sane rows (getD (replicate P fresh) q fresh)
-  sane-fresh zero q = record { in-file = λ k e. closed-open e; works = tt }
-  sane-fresh (suc P) zero = record { in-file = λ k e. closed-open e; works = tt }
-  sane-fresh (suc P) (suc q) = sane-fresh P q
+      quiet : (o : Opened) → Announcing (wokenUp o) → ⊥
+      quiet Closed x = x
+      quiet (Open k) x = x
+  sane-waked p r Idle h = h
+  sane-waked p r N2 h = h
+  sane-waked p r N3 h = h
+  sane-waked p r (Busy stage seen readAt triedAt answer) h = h
 
-  -- "no index goes wrong": whatever the schedule, an open row is a row of the file, and in the midst of work a row is open
-  pub sane : (P : ℕ) (words bytes : List ℕ) (q : ℕ) → Sane rows (procAt q (after rows 0 bytes (begin P words)))
+  sane-fresh : (P q : ℕ) → Sane rows q (getD (replicate P fresh) q fresh)
+  sane-fresh P q = rw (fresh-at P q) (record { in-file = λ k e. closed-open e; works = tt; left = λ x. absurd x })
+
+  -- "no index goes wrong": whatever the schedule, an open row is a row of the file, in the midst of work a row is open, and a row that is
+  -- announced is there
+  pub sane : (P : ℕ) (words bytes : List ℕ) (q : ℕ) → Sane rows q (procAt q (after rows 0 bytes (begin P words)))
   unfolding begin procAt
   sane P words bytes q =
-      each-after rows (λ p r. Sane rows r) sane-turned (λ p r h. record { in-file = h .in-file; works = tt }) (λ p r h. sane-waked r (r .status) h) 0 bytes (begin P words) (sane-fresh P) q
+      each-after rows (Sane rows) sane-turned (λ p r h. record { in-file = h .in-file; works = tt; left = λ x. absurd x }) (λ p r h. sane-waked p r (r .status) h) 0 bytes (begin P words) (sane-fresh P) q

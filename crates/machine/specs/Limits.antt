@@ -1,4 +1,4 @@
--- "Left uncrashed, a process ends its operation within 7 of its own steps from the start, or within 5 after a wake": for any rows, any
+-- "Left uncrashed, a process ends its operation within 9 of its own steps from the start, or within 5 after a wake": for any rows, any
 -- start words and any schedule, whatever the others do in between. Each own step leads to a stage with fewer steps to go, or closes the
 -- row; no other byte touches the record of a process that is awake, unless it crashes it.
 -- Assumes nothing.
@@ -24,7 +24,7 @@ use Rattle.machine.specs.declared.Maybe.{Maybe}
 use Rattle.machine.specs.declared.Maybe.the-variants.{Nothing as None, Is}
 use Rattle.machine.specs.declared.Opened.the-variants.{Nothing as Closed, Row as Open}
 use Rattle.machine.specs.declared.Status.{Status}
-use Rattle.machine.specs.declared.Status.the-variants.{Down, Idle, Busy}
+use Rattle.machine.specs.declared.Status.the-variants.{Down, Idle, N2, N3, Busy}
 use Rattle.machine.specs.declared.Turn.the-variants.{Quiet, Swaps, Logs, Loses}
 use Rattle.word.specs.Word.{value, bit, swapped, valueIn, bitIn, swappedIn, bitOf, turnOf, flipsIn}
 use Rattle.machine.specs.Records.{fresh, with-status, closed, wokenUp}
@@ -99,12 +99,16 @@ further V6 = 0
 abbrev Working : ℕ → Status → Type 0
 Working n Down = ⊥
 Working n Idle = ⊥
+Working n N2 = ⊥
+Working n N3 = ⊥
 Working n (Busy stage seen readAt triedAt answer) = further stage < n
 
--- a process of so many rows that has at most n own steps to go, and will then have begun so many: it is to start, or at work; or it has
--- ended already
+-- a process of so many rows that has at most n own steps to go, and will then have begun so many: it is to start, in the midst of
+-- the announcement, or at work; or it has ended already
 data Pending (all n begun : ℕ) (r : Process) : Type 0 where
-  starts : r .status ≡ Idle → r .begun < all → suc (r .begun) ≡ begun → 7 ≤ n → Pending all n begun r
+  starts : r .status ≡ Idle → r .begun < all → suc (r .begun) ≡ begun → 9 ≤ n → Pending all n begun r
+  clears : r .status ≡ N2 → suc (r .begun) ≡ begun → 8 ≤ n → Pending all n begun r
+  opens : r .status ≡ N3 → suc (r .begun) ≡ begun → 7 ≤ n → Pending all n begun r
   works : (k : ℕ) → Working n (r .status) → r .opened ≡ Open k → r .begun ≡ begun → Pending all n begun r
 
 abbrev Due : (all n begun : ℕ) → Process → Type 0
@@ -169,22 +173,30 @@ module _ (rows : List Row) (p : ℕ) where
   -- an own step brings the end nearer
   advance : (t : ℕ) (words : List ℕ) (log : List Entry) (r : Process) (n begun : ℕ) → Pending (count rows p) (suc n) begun r → Due (count rows p) n begun (turn rows p t words log r (r .status) .process)
   unfolding turn stepTurn further
-  advance t words log r n begun (starts i l b m) = rw (i, lt-ltb (r .begun) (count rows p) l) (inr (works (first rows p + r .begun) (omega arith) refl b))
+  advance t words log r n begun (starts i l b m) = rw (i, lt-ltb (r .begun) (count rows p) l) (inr (clears refl b (omega arith)))
+  advance t words log r n begun (clears i b m) = rw i (inr (opens refl b (omega arith)))
+  advance t words log r n begun (opens i b m) = rw i (inr (works (first rows p + r .begun) (omega arith) refl b))
   advance t words log r n begun (works k w o b) = go (r .status) w
     where
       go : (status : Status) → Working (suc n) status → Due (count rows p) n begun (turn rows p t words log r status .process)
       go Down w = absurd w
       go Idle w = absurd w
+      go N2 w = absurd w
+      go N3 w = absurd w
       go (Busy stage seen readAt triedAt answer) w = rw (working _ p t _ r (r .opened) k stage seen readAt triedAt answer o) (nearer _ p t _ r (count rows p) n begun k o b stage seen readAt triedAt answer (omega arith))
 
   -- a process at work or about to start is awake, and has a step to go
   awake : (n begun : ℕ) (r : Process) → Pending (count rows p) n begun r → (r .status ≡ Down → ⊥) × (0 < n)
   awake n begun r (starts i l b m) = (λ d. (let z : _≡_ {A = ℕ} 0 1 = cc in omega arith), omega arith)
+  awake n begun r (clears i b m) = (λ d. (let z : _≡_ {A = ℕ} 0 1 = cc in omega arith), omega arith)
+  awake n begun r (opens i b m) = (λ d. (let z : _≡_ {A = ℕ} 0 1 = cc in omega arith), omega arith)
   awake n begun r (works k w o b) = go (r .status) w
     where
       go : (status : Status) → Working n status → (status ≡ Down → ⊥) × (0 < n)
       go Down w = absurd w
       go Idle w = absurd w
+      go N2 w = absurd w
+      go N3 w = absurd w
       go (Busy stage seen readAt triedAt answer) w = (λ d. (let z : _≡_ {A = ℕ} 0 1 = cc in omega arith), omega arith)
 
   -- no byte adds or removes a process
@@ -285,11 +297,11 @@ module _ (rows : List Row) (P : ℕ) (words : List ℕ) where
     unfolding begin
     here = present rows p 0 before (begin P words) (rw (length-replicate P fresh) h)
 
-    -- "Left uncrashed, a process ends its operation within 7 of its own steps from the start": after the bytes `before` it is idle with
-    -- rows left, so that its next own step is a Start; in the bytes `during` it is not crashed and has the 7 steps
-    pub from-start : (during : List ℕ) → recordOf p before .status ≡ Idle → recordOf p before .begun < count rows p → Uncrashed p during → 7 ≤ ownSteps p during
-        → EndsWithin 7 (suc (recordOf p before .begun)) p during (λ part. ran (before ++ part))
-    from-start during i l u n = retold _ _ p during _ _ (λ part. after-join rows 0 before part (begin P words)) (within rows p 7 (suc (mine .begun)) (0 + length before) during (ran before) here (inr (starts i l refl (omega arith))) u n)
+    -- "Left uncrashed, a process ends its operation within 9 of its own steps from the start": after the bytes `before` it is idle with
+    -- rows left, so that its next own step is the first store of the announcement; in the bytes `during` it is not crashed and has the 9 steps
+    pub from-start : (during : List ℕ) → recordOf p before .status ≡ Idle → recordOf p before .begun < count rows p → Uncrashed p during → 9 ≤ ownSteps p during
+        → EndsWithin 9 (suc (recordOf p before .begun)) p during (λ part. ran (before ++ part))
+    from-start during i l u n = retold _ _ p during _ _ (λ part. after-join rows 0 before part (begin P words)) (within rows p 9 (suc (mine .begun)) (0 + length before) during (ran before) here (inr (starts i l refl (omega arith))) u n)
 
     module _ (byte : ℕ) (a : action byte ≡ wakes) (q : named byte ≡ p) (d : recordOf p before .status ≡ Down) where
       abbrev woken : State
@@ -311,8 +323,8 @@ module _ (rows : List Row) (P : ℕ) (words : List ℕ) where
       pub wake-idle : recordOf p before .opened ≡ Closed → Ended (recordOf p before .begun) (recordOf p (before ++ (byte ∷ [])))
       wake-idle o = rw (after-snoc rows 0 before byte (begin P words), woken-is, o) (record { idle = refl; no-row = refl; begun = refl })
 
--- The limits apply, and they are met. In bench case f, 2·00 5·01 5·00, process 0 has 7 steps, with 5 of process 1 in between; in bench case
--- d, 5·00 10 20 5·00, it has 5 steps after its wake. In both its row is still open after one step less
+-- The limits apply, and they are met. In bench case f, 4·00 7·01 5·00, process 0 has 9 steps, with 7 of process 1 in between; in bench case
+-- d, 7·00 10 20 5·00, it has 5 steps after its wake. In both its row is still open after one step less
 abbrev compare : (process old new : ℕ) → Row
 compare process old new = record { process = process; kind = 1; word = 0; old = old; new = new }
 
@@ -321,9 +333,9 @@ module _ where
   rows-f = compare 0 7 8 ∷ compare 1 7 9 ∷ []
 
   abbrev first-f : List ℕ
-  first-f = replicate 2 0 ++ replicate 5 1
+  first-f = replicate 4 0 ++ replicate 7 1
 
-  pub case-f : EndsWithin 7 1 0 (first-f ++ replicate 5 0) (ran rows-f 2 (7 ∷ [])) × (recordOf rows-f 2 (7 ∷ []) 0 (first-f ++ replicate 4 0) .opened ≡ Open 0)
+  pub case-f : EndsWithin 9 1 0 (first-f ++ replicate 5 0) (ran rows-f 2 (7 ∷ [])) × (recordOf rows-f 2 (7 ∷ []) 0 (first-f ++ replicate 4 0) .opened ≡ Open 0)
   unfolding procAt after step act applied apply begin turn stepTurn decide tried storing count first rowNumbered howMany valueIn flipsIn swappedIn turnOf
   case-f = (from-start rows-f 2 (7 ∷ []) 0 (omega arith) [] _ refl (omega arith) refl (omega arith), refl)
 
@@ -331,7 +343,7 @@ module _ where
   rows-d = compare 0 7 8 ∷ []
 
   abbrev crashed-d : List ℕ
-  crashed-d = replicate 5 0 ++ (16 ∷ [])
+  crashed-d = replicate 7 0 ++ (16 ∷ [])
 
   pub case-d : EndsWithin 5 1 0 (replicate 5 0) (λ part. ran rows-d 1 (7 ∷ []) (crashed-d ++ (32 ∷ part))) × (recordOf rows-d 1 (7 ∷ []) 0 (crashed-d ++ (32 ∷ replicate 4 0)) .opened ≡ Open 0)
   unfolding procAt after step act applied apply begin turn stepTurn decide tried count first rowNumbered howMany valueIn flipsIn swappedIn turnOf bitIn bitOf

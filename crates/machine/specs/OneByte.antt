@@ -13,7 +13,7 @@ use Rattle.runfile.specs.Actions.{Action, step as steps, crash as crashes, wake
 use Rattle.runfile.specs.Operations.{count}
 use Rattle.machine.specs.declared.Process.{Process}
 use Rattle.machine.specs.declared.Status.{Status}
-use Rattle.machine.specs.declared.Status.the-variants.{Down, Idle, Busy}
+use Rattle.machine.specs.declared.Status.the-variants.{Down, Idle, N2, N3, Busy}
 use Rattle.machine.specs.Records.{fresh, crashed, waked}
 use Rattle.machine.specs.Steps.{stepTurn}
 use Rattle.machine.specs.Machine.{State, Move, alone, turn, apply, applied, procAt, act, step}
@@ -65,6 +65,8 @@ module _ (rows : List Row) (t : ℕ) (byte : ℕ) (s : State) where
       go : (st : Status) → (st ≡ Down → ⊥) → waked mine st ≡ mine
       go Down n = absurd (n refl)
       go Idle n = refl
+      go N2 n = refl
+      go N3 n = refl
       go (Busy stage seen readAt triedAt answer) n = refl
 
   pub no-action : action byte ≡ idles → step rows t byte s ≡ s

@@ -7,7 +7,7 @@ use lib.ListN.{length}
 use Rattle.runfile.specs.Layout.{byteAt}
 use Rattle.machine.specs.declared.Process.{Process}
 use Rattle.machine.specs.declared.Opened.the-variants.{Row as Open}
-use Rattle.machine.specs.Records.{WorkOpen}
+use Rattle.machine.specs.Records.{WorkOpen, Announcing}
 
 -- row k of a table, and its word
 pub record Reach (table : List ℕ) (k : ℕ) (words : List ℕ) : Type 0 where
@@ -19,4 +19,5 @@ pub record Ready (table words : List ℕ) (me first count : ℕ) (r : Process) :
   pub present : me < 16
   pub few : first + count ≤ 512
   pub works : WorkOpen (r .status) (r .opened)
+  pub left : Announcing (r .status) → r .begun < count
   pub reach : (k : ℕ) → r .opened ≡ Open k → Reach table k words

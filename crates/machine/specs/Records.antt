@@ -4,7 +4,7 @@
 -- Assumes nothing.
 use Prim.Native.Nat.{ℕ, suc}
 use mathlib.Core.Path.{_≡_}
-use mathlib.Core.Bool.{Bool, true, false}
+use mathlib.Core.Bool.{Bool, false}
 use Rattle.machine.specs.declared.Process.{Process}
 use Rattle.machine.specs.declared.Stage.the-variants.{A1, V1}
 use Rattle.machine.specs.declared.Maybe.{Maybe}
@@ -12,7 +12,7 @@ use Rattle.machine.specs.declared.Maybe.the-variants.{Nothing as None}
 use Rattle.machine.specs.declared.Opened.{Opened}
 use Rattle.machine.specs.declared.Opened.the-variants.{Nothing as Closed, Row as Open}
 use Rattle.machine.specs.declared.Status.{Status}
-use Rattle.machine.specs.declared.Status.the-variants.{Down, Idle, Busy}
+use Rattle.machine.specs.declared.Status.the-variants.{Down, Idle, N2, N3, Busy}
 
 -- "At first all are idle with nothing stored and both bits 0."
 abbrev pub fresh : Process
@@ -29,8 +29,8 @@ with-status status r = record { status = status; opened = r .opened; stored = r 
 abbrev pub with-kept : Status → Bool → Process → Process
 with-kept status bit r = record { status = status; opened = r .opened; stored = r .stored; checkpoint = r .checkpoint; kept = bit; begun = r .begun }
 
-abbrev pub with-checkpoint : Status → Process → Process
-with-checkpoint status r = record { status = status; opened = r .opened; stored = r .stored; checkpoint = true; kept = r .kept; begun = r .begun }
+abbrev pub with-checkpoint : Status → Bool → Process → Process
+with-checkpoint status bit r = record { status = status; opened = r .opened; stored = r .stored; checkpoint = bit; kept = r .kept; begun = r .begun }
 
 abbrev pub with-stored : Status → Maybe → Process → Process
 with-stored status stored r = record { status = status; opened = r .opened; stored = stored; checkpoint = r .checkpoint; kept = r .kept; begun = r .begun }
@@ -39,9 +39,9 @@ with-stored status stored r = record { status = status; opened = r .opened; stor
 abbrev pub closed : Process → Process
 closed r = record { status = Idle; opened = Closed; stored = r .stored; checkpoint = r .checkpoint; kept = r .kept; begun = r .begun }
 
--- "Start (idle, rows left): open the next row, clear the stored answer, checkpoint 0."
+-- the last of the three stores that announce a row: "then opens the row"; "rows begun" counts it now
 abbrev pub started : ℕ → Process → Process
-started k r = record { status = Busy A1 0 0 0 None; opened = Open k; stored = None; checkpoint = false; kept = r .kept; begun = suc (r .begun) }
+started k r = record { status = Busy A1 0 0 0 None; opened = Open k; stored = r .stored; checkpoint = r .checkpoint; kept = r .kept; begun = suc (r .begun) }
 
 -- "Crash: an awake process goes down."
 abbrev pub crashed : Process → Process
@@ -55,6 +55,8 @@ wokenUp (Open k) = Busy V1 0 0 0 None
 abbrev pub waked : Process → Status → Process
 waked r Down = with-status (wokenUp (r .opened)) r
 waked r Idle = r
+waked r N2 = r
+waked r N3 = r
 waked r (Busy stage word readAt triedAt answer) = r
 
 -- the number of the open row; and that a row is open in the midst of work
@@ -65,4 +67,14 @@ rowOpen (Open k) = k
 abbrev pub WorkOpen : Status → Opened → Type 0
 WorkOpen Down opened = Unit
 WorkOpen Idle opened = Unit
+WorkOpen N2 opened = Unit
+WorkOpen N3 opened = Unit
 WorkOpen (Busy stage word readAt triedAt answer) opened = (k : ℕ) × (opened ≡ Open k)
+
+-- in the midst of the announcement: the first store is made, the last is not
+abbrev pub Announcing : Status → Type 0
+Announcing Down = ⊥
+Announcing Idle = ⊥
+Announcing N2 = Unit
+Announcing N3 = Unit
+Announcing (Busy stage word readAt triedAt answer) = ⊥

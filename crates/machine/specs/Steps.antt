@@ -19,7 +19,7 @@ use Rattle.machine.specs.declared.Maybe.the-variants.{Nothing as None, I
 use Rattle.machine.specs.declared.Opened.{Opened}
 use Rattle.machine.specs.declared.Opened.the-variants.{Nothing as Closed, Row as Open}
 use Rattle.machine.specs.declared.Status.{Status}
-use Rattle.machine.specs.declared.Status.the-variants.{Down, Idle, Busy}
+use Rattle.machine.specs.declared.Status.the-variants.{Down, Idle, N2, N3, Busy}
 use Rattle.machine.specs.declared.Turn.{Turn}
 use Rattle.machine.specs.declared.Turn.the-variants.{Still, Quiet, Swaps, Logs, Loses, Replies}
 use Rattle.machine.specs.Records.{with-status, with-kept, with-checkpoint, with-stored, closed, started}
@@ -71,7 +71,7 @@ sameBit false b = not b
 unfoldable pub decide : Row → ℕ → ℕ → ℕ → Process → Stage → ℕ → ℕ → ℕ → Maybe → Turn
 decide row p t now r A1 seen readAt triedAt answer = Quiet (with-status (afterRead row now t) r)
 decide row p t now r A2 seen readAt triedAt answer = Quiet (with-kept (Busy A3 seen readAt triedAt answer) (not (bit p seen)) r)
-decide row p t now r A3 seen readAt triedAt answer = Quiet (with-checkpoint (Busy A4 seen readAt triedAt answer) r)
+decide row p t now r A3 seen readAt triedAt answer = Quiet (with-checkpoint (Busy A4 seen readAt triedAt answer) true r)
 decide row p t now r A4 seen readAt triedAt answer = tried p t row now r seen readAt
 decide row p t now r A5 seen readAt triedAt answer = storing row (with-stored (Busy A6 seen readAt triedAt answer) answer r) seen readAt triedAt answer
 decide row p t now r A6 seen readAt triedAt answer = Replies (closed r) answer
@@ -82,15 +82,18 @@ decide row p t now r V4 seen readAt triedAt answer = Quiet (with-stored (Busy V5
 decide row p t now r V5 seen readAt triedAt answer = Replies (closed r) (r .stored)
 decide row p t now r V6 seen readAt triedAt answer = Replies (closed r) None
 
--- "A step of a process that is down, a step of an idle one with no rows left .. change nothing". A process in the midst of work has a
--- row open: that is `row`, and `now` is its word. The process has `count` rows, the first of which is row number `first`
+-- "A step of a process that is down, a step of an idle one with no rows left .. change nothing". A row is announced by three stores,
+-- a step each: an idle process with rows left "clears the stored answer, then clears the checkpoint, then opens the row". A process in the
+-- midst of work has a row open: that is `row`, and `now` is its word. The process has `count` rows, the first of which is row number `first`
 abbrev pub atWork : Row → (p t now : ℕ) → Process → Opened → Stage → (seen readAt triedAt : ℕ) → Maybe → Turn
 atWork row p t now r Closed stage seen readAt triedAt answer = Still
 atWork row p t now r (Open k) stage seen readAt triedAt answer = decide row p t now r stage seen readAt triedAt answer
 
 unfoldable pub stepTurn : Row → (p t now first count : ℕ) → Process → Status → Turn
 stepTurn row p t now first count r Down = Still
-stepTurn row p t now first count r Idle = cond (ltb (r .begun) count) (Quiet (started (first + r .begun) r)) Still
+stepTurn row p t now first count r Idle = cond (ltb (r .begun) count) (Quiet (with-stored N2 None r)) Still
+stepTurn row p t now first count r N2 = Quiet (with-checkpoint N3 false r)
+stepTurn row p t now first count r N3 = Quiet (started (first + r .begun) r)
 stepTurn row p t now first count r (Busy stage seen readAt triedAt answer) = atWork row p t now r (r .opened) stage seen readAt triedAt answer
 
 pub working : (row : Row) (p t now : ℕ) (r : Process) (opened : Opened) (k : ℕ) (stage : Stage) (seen readAt triedAt : ℕ) (answer : Maybe) → opened ≡ Open k

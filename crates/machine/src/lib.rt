@@ -50,10 +50,13 @@ pub enum Opened {
     Row(u16),
 }
 
-// All that is volatile stands in the middle case, so a crash cannot forget to clear any of it.
+// All that is volatile stands here, so a crash cannot forget to clear any of it. A row is announced by three
+// stores: an idle process makes the first, and is then at N2 and at N3, where the others are to be made.
 pub enum Status {
     Down,
     Idle,
+    N2,
+    N3,
     Busy {
         stage: Stage,
         word: u32,

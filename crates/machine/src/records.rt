@@ -53,8 +53,8 @@ pub fn with_kept(process: Process, status: Status, kept: bool) -> Process
     }
 }
 
-pub fn with_checkpoint(process: Process, status: Status) -> Process
-    ensures { λ r. ⌜ r ≡ records.with-checkpoint status process ⌝ }
+pub fn with_checkpoint(process: Process, status: Status, checkpoint: bool) -> Process
+    ensures { λ r. ⌜ r ≡ records.with-checkpoint status checkpoint process ⌝ }
 {
     let opened = process.opened;
     let stored = process.stored;
@@ -62,7 +62,7 @@ pub fn with_checkpoint(process: Process, status: Status) -> Process
         status,
         opened,
         stored,
-        checkpoint: true,
+        checkpoint,
         kept: process.kept,
         begun: process.begun,
     }
@@ -97,11 +97,12 @@ pub fn closed(process: Process) -> Process
     }
 }
 
-// Start: opens the next of the rows that begin at row `first`.
+// N3: opens the next of the rows that begin at row `first`; it is begun now.
 pub fn start(process: Process, first: u16) -> Process
     requires { ⌜ first + process .begun < 65535 ⌝ }
     ensures { λ r. ⌜ r ≡ records.started (first + process .begun) process ⌝ }
 {
+    let stored = process.stored;
     Process {
         status: Status::Busy {
             stage: Stage::A1,
@@ -111,8 +112,8 @@ pub fn start(process: Process, first: u16) -> Process
             answer: Maybe::Nothing,
         },
         opened: Opened::Row(first + process.begun),
-        stored: Maybe::Nothing,
-        checkpoint: false,
+        stored,
+        checkpoint: process.checkpoint,
         kept: process.kept,
         begun: process.begun + 1,
     }
@@ -151,6 +152,8 @@ pub fn wake(process: Process) -> Process
             with_status(process, woken_up(opened))
         }
         Status::Idle => process,
+        Status::N2 => process,
+        Status::N3 => process,
         Status::Busy {
             stage: _,
             word: _,

@@ -103,6 +103,7 @@ fn operate(
         2 => Turn::Quiet(with_checkpoint(
             process,
             busy(Stage::A4, seen, read_at, tried_at, answer),
+            true,
         )),
         3 => {
             let row = runfile::row_at(table, k);
@@ -244,10 +245,12 @@ pub fn step_of(
         Status::Down => Turn::Still,
         Status::Idle => {
             if process.begun < count {
-                return Turn::Quiet(start(process, first));
+                return Turn::Quiet(with_stored(process, Status::N2, Maybe::Nothing));
             }
             Turn::Still
         }
+        Status::N2 => Turn::Quiet(with_checkpoint(process, Status::N3, false)),
+        Status::N3 => Turn::Quiet(start(process, first)),
         Status::Busy {
             stage,
             word,

@@ -25,12 +25,12 @@ use Rattle.machine.specs.declared.Process.{Process}
 use Rattle.machine.specs.declared.Answer.{Answer}
 use Rattle.machine.specs.declared.Answer.the-variants.{False, True}
 use Rattle.machine.specs.declared.Maybe.{Maybe}
-use Rattle.machine.specs.declared.Maybe.the-variants.{Is}
+use Rattle.machine.specs.declared.Maybe.the-variants.{Nothing as None, Is}
 use Rattle.machine.specs.declared.Status.{Status}
-use Rattle.machine.specs.declared.Status.the-variants.{Down, Idle, Busy}
+use Rattle.machine.specs.declared.Status.the-variants.{Down, Idle, N2, N3, Busy}
 use Rattle.machine.specs.declared.Turn.{Turn}
 use Rattle.machine.specs.declared.Turn.the-variants.{Still, Quiet, Swaps, Logs, Loses, Replies}
-use Rattle.machine.specs.Records.{fresh, nobody, started, crashed, waked, rowOpen, WorkOpen}
+use Rattle.machine.specs.Records.{fresh, nobody, with-stored, crashed, waked, rowOpen, WorkOpen}
 use Rattle.machine.specs.Steps.{entry, stepTurn}
 use Rattle.machine.specs.Machine.{State, quiet, swaps, logs, replies, processOf, effectOf, moveOf, turn, apply, applied, procAt, act, step, after, begin}
 use Rattle.machine.specs.Laws.{after-snoc, Sane, sane}
@@ -70,17 +70,19 @@ Acts (Logs next q a) = Unit
 Acts (Loses next a o) = Unit
 Acts (Replies next said) = Unit
 
-pub acts-open : (rows : List Row) (row : Row) (p t now f c : ℕ) (r : Process) → Sane rows r → Acts (stepTurn row p t now f c r (r .status)) → rowOpen (r .opened) < length rows
+pub acts-open : (rows : List Row) (row : Row) (p t now f c : ℕ) (r : Process) → Sane rows p r → Acts (stepTurn row p t now f c r (r .status)) → rowOpen (r .opened) < length rows
 unfolding stepTurn
 acts-open rows row p t now f c r h a = go (r .status) (h .works) a
   where
-    start : (b : Bool) → Acts (cond b (Quiet (started (f + r .begun) r)) Still) → ⊥
+    start : (b : Bool) → Acts (cond b (Quiet (with-stored N2 None r)) Still) → ⊥
     start true a = a
     start false a = a
 
     go : (status : Status) → WorkOpen status (r .opened) → Acts (stepTurn row p t now f c r status) → rowOpen (r .opened) < length rows
     go Down w a = absurd a
     go Idle w a = absurd (start (ltb (r .begun) c) a)
+    go N2 w a = absurd a
+    go N3 w a = absurd a
     go (Busy stage seen readAt triedAt answer) w a = rw (w .1) (h .in-file (w .0) (w .1))
 
 -- the row as it is read from the table is the row of that number
@@ -88,7 +90,7 @@ module _ (table : List ℕ) (n : ℕ) where
   pub row-is : (k : ℕ) → k < n → rowAt table (k * 8) ≡ rowNumbered (rowsFrom table 0 n) k
   row-is k h = sym (rowNumbered-rowsFrom table 0 n k h ∙ ap (rowAt table) (zero-add (k * 8)))
 
-  pub turn-is : (p t f c : ℕ) (words : List ℕ) (r : Process) → Sane (rowsFrom table 0 n) r
+  pub turn-is : (p t f c : ℕ) (words : List ℕ) (r : Process) → Sane (rowsFrom table 0 n) p r
       → stepTurn (rowAt table (rowOpen (r .opened) * 8)) p t (getD words (rowAt table (rowOpen (r .opened) * 8) .word) 0) f c r (r .status)
       ≡ stepTurn (rowNumbered (rowsFrom table 0 n) (rowOpen (r .opened))) p t (getD words (rowNumbered (rowsFrom table 0 n) (rowOpen (r .opened)) .word) 0) f c r (r .status)
   unfolding stepTurn
@@ -99,6 +101,8 @@ module _ (table : List ℕ) (n : ℕ) where
           ≡ stepTurn (rowNumbered (rowsFrom table 0 n) (rowOpen (r .opened))) p t (getD words (rowNumbered (rowsFrom table 0 n) (rowOpen (r .opened)) .word) 0) f c r status
       go Down w = refl
       go Idle w = refl
+      go N2 w = refl
+      go N3 w = refl
       go (Busy stage seen readAt triedAt answer) w =
           let l : rowOpen (r .opened) < n = rw (w .1) (rw (length-rowsFrom table 0 n) at (h .in-file (w .0) (w .1))) in
           rw (row-is (rowOpen (r .opened)) l)
@@ -157,7 +161,7 @@ module _ {rows : List Row} {start schedule log₀ answers₀ : List ℕ} {i : �
   unfolding procAt
   mine = let l : me < 16 = omega arith in getD-either ps me nobody fresh (rw (h .size) l) ∙ ap (λ l. getD l me fresh) (h .records)
 
-  pub sane-mine : Sane rows (getD ps me nobody)
+  pub sane-mine : Sane rows me (getD ps me nobody)
   unfolding stateAt
   sane-mine = rw mine (sane rows 16 start (take i schedule) me)
 

@@ -5,6 +5,7 @@ use std::collections::HashMap;
 
 use super::given::{Given, GivenRow};
 use super::outcome::{Five, Ran};
+use super::spans::Spans;
 use super::Violation;
 
 pub const FALSE: u64 = 0;
@@ -106,33 +107,20 @@ fn by_row<'r>(given: &Given, fives: &'r [Five]) -> Result<HashMap<usize, &'r Fiv
 }
 
 /// (c) Order: an operation that ended before another began comes first in the
-/// log. When an operation began cannot be seen from outside, but it was after
-/// the answer of its process's previous row, so whatever ended by then (that
-/// row itself included) must come first.
-pub fn check_order(given: &Given, ran: &Ran) -> Result<(), Violation> {
-    let ended: HashMap<usize, u64> = ran
-        .answers
-        .iter()
-        .map(|five| (five.row, five.position))
-        .collect();
+/// log. It began at its third store.
+pub fn check_order(ran: &Ran, spans: &Spans) -> Result<(), Violation> {
     // The earliest end among the operations further back in the log.
     let mut earliest_behind = u64::MAX;
     for five in ran.log.iter().rev() {
-        if let Some(before) = named_row(given, five)?.predecessor {
-            let Some(began_after) = ended.get(&before) else {
-                let row = five.row;
-                return Err(format!("row {row} took effect with row {before} open"));
-            };
-            if earliest_behind <= *began_after {
-                return Err(format!(
-                    "row {} began after {began_after}, but an operation that ended at \
-                     {earliest_behind} comes behind it in the log",
-                    five.row
-                ));
-            }
+        let span = spans.of(five.row)?;
+        if earliest_behind < span.began {
+            return Err(format!(
+                "row {} began at {}, but an operation that ended at {earliest_behind} \
+                 comes behind it in the log",
+                five.row, span.began
+            ));
         }
-        let end = ended.get(&five.row).copied().unwrap_or(u64::MAX);
-        earliest_behind = earliest_behind.min(end);
+        earliest_behind = earliest_behind.min(span.ended.unwrap_or(u64::MAX));
     }
     Ok(())
 }

@@ -21,9 +21,6 @@ pub struct GivenRow {
     pub word: usize,
     pub old: u64,
     pub new: u64,
-    /// The row of the same process before this one: "A process's rows are
-    /// carried out in file order."
-    pub predecessor: Option<usize>,
 }
 
 impl Given {
@@ -48,7 +45,7 @@ impl Given {
             words: words
                 .map(|at| start_word(file, at))
                 .collect::<Option<_>>()?,
-            rows: with_predecessors(rows.map(|at| given_row(file, at)).collect::<Option<_>>()?),
+            rows: rows.map(|at| given_row(file, at)).collect::<Option<_>>()?,
             schedule: schedule.to_vec(),
         })
     }
@@ -87,16 +84,5 @@ fn given_row(file: &[u8], at: usize) -> Option<GivenRow> {
         word: number(file, at + 2, 1)? as usize,
         old: number(file, at + 4, 2)?,
         new: number(file, at + 6, 2)?,
-        predecessor: None,
     })
-}
-
-fn with_predecessors(mut rows: Vec<GivenRow>) -> Vec<GivenRow> {
-    let mut latest = [None; 256];
-    for (number, row) in rows.iter_mut().enumerate() {
-        // A process is one byte of the file, so it has a place among 256.
-        let latest = &mut latest[(row.process & 255) as usize];
-        row.predecessor = latest.replace(number);
-    }
-    rows
 }

@@ -2,14 +2,15 @@
 //! true story of the run, without running anything.
 //!
 //! This module shares no code with the machine: it reads the run file and the
-//! outcome lines in its own way and knows nothing of stages. What it demands
-//! is what can be seen from outside: the file, the log, the answers and the
-//! final words.
+//! outcome lines in its own way and knows nothing of stages, only that an
+//! operation begins with its third store. What it demands is what can be seen
+//! from outside: the file, the log, the answers and the final words.
 
 mod demands;
 mod given;
 mod outcome;
 mod positions;
+mod spans;
 mod sum;
 mod tally;
 
@@ -26,7 +27,8 @@ use crate::stream::Record;
 use crate::Ending;
 
 use given::Given;
-use outcome::{Outcome, Told};
+use outcome::{Outcome, Ran, Told};
+use spans::Spans;
 use tally::Tally;
 
 /// What is wrong with an outcome, in words.
@@ -38,7 +40,7 @@ pub fn command(stream: &Path, outcomes: &Path) -> io::Result<Ending> {
     check(&mut stream, &mut outcomes, &mut io::stdout().lock())
 }
 
-fn check(
+pub fn check(
     stream: &mut impl BufRead,
     outcomes: &mut impl BufRead,
     out: &mut impl Write,
@@ -88,14 +90,22 @@ fn check_record(record: &Record, text: &[u8], tally: &mut Tally) -> Result<(), V
         }
         Told::Ran(ran) => {
             let given = Given::read(&record.file)?;
-            demands::check_counts(&given, &ran)?;
-            demands::check_replay(&given, &ran)?;
-            demands::check_once(&given, &ran)?;
-            demands::check_order(&given, &ran)?;
-            demands::check_flip_bits(&given, &ran)?;
-            positions::check(&given, &ran)?;
-            tally.ran(&given, &ran);
+            let spans = check_run(&given, &ran)?;
+            tally.ran(&given, &ran, &spans);
             Ok(())
         }
     }
+}
+
+fn check_run(given: &Given, ran: &Ran) -> Result<Spans, Violation> {
+    demands::check_counts(given, ran)?;
+    demands::check_replay(given, ran)?;
+    demands::check_once(given, ran)?;
+    demands::check_flip_bits(given, ran)?;
+    positions::check_log(given, ran)?;
+    positions::check_answers(given, ran)?;
+    let spans = Spans::follow(given, ran)?;
+    demands::check_order(ran, &spans)?;
+    positions::check_between(ran, &spans)?;
+    Ok(spans)
 }

@@ -6,18 +6,13 @@ use std::collections::HashMap;
 use super::demands::{named_row, FALSE, TRUE};
 use super::given::Given;
 use super::outcome::{Five, Ran};
+use super::spans::Spans;
 use super::Violation;
-
-pub fn check(given: &Given, ran: &Ran) -> Result<(), Violation> {
-    check_log_positions(given, ran)?;
-    check_answer_positions(given, ran)?;
-    check_between(given, ran)
-}
 
 /// Log positions never decrease and are below S. The position is that of a
 /// step of the row's own process (its A1 or A4), or, for a lost swap, that of
 /// the swap to which it lost.
-fn check_log_positions(given: &Given, ran: &Ran) -> Result<(), Violation> {
+pub fn check_log(given: &Given, ran: &Ran) -> Result<(), Violation> {
     let never_decrease = ran.log.is_sorted_by_key(|five| five.position);
     let length = given.schedule.len() as u64;
     if !never_decrease || ran.log.iter().any(|five| five.position >= length) {
@@ -53,7 +48,7 @@ pub fn lost_swaps(given: &Given, ran: &Ran) -> Vec<bool> {
 
 /// One byte gives at most one answer, in the order of the bytes, and it is a
 /// step of the process that is answered.
-fn check_answer_positions(given: &Given, ran: &Ran) -> Result<(), Violation> {
+pub fn check_answers(given: &Given, ran: &Ran) -> Result<(), Violation> {
     let positions = ran.answers.iter().map(|five| five.position);
     if !positions.is_sorted_by(|earlier, later| earlier < later) {
         return Err("the answers' positions do not increase".to_string());
@@ -69,31 +64,15 @@ fn check_answer_positions(given: &Given, ran: &Ran) -> Result<(), Violation> {
     Ok(())
 }
 
-/// An operation takes effect between its beginning and its end: behind the
-/// answer of its process's previous row, and before its own answer. And rows
-/// of one process are answered in file order.
-fn check_between(given: &Given, ran: &Ran) -> Result<(), Violation> {
-    let answered: HashMap<usize, u64> = ran
-        .answers
-        .iter()
-        .map(|five| (five.row, five.position))
-        .collect();
-    for five in ran.log.iter().chain(&ran.answers) {
-        let behind_predecessor = match named_row(given, five)?.predecessor {
-            Some(before) => answered
-                .get(&before)
-                .is_some_and(|end| *end < five.position),
-            None => true,
-        };
-        if !behind_predecessor {
-            return Err(format!("row {} came before its turn", five.row));
-        }
-    }
+/// An operation takes effect between its beginning and its end: behind its
+/// third store and before its answer.
+pub fn check_between(ran: &Ran, spans: &Spans) -> Result<(), Violation> {
     for five in &ran.log {
-        if answered
-            .get(&five.row)
-            .is_some_and(|end| *end <= five.position)
-        {
+        let span = spans.of(five.row)?;
+        if five.position <= span.began {
+            return Err(format!("row {} took effect before it began", five.row));
+        }
+        if span.ended.is_some_and(|end| end <= five.position) {
             return Err(format!("row {} took effect after its answer", five.row));
         }
     }

@@ -1,9 +1,11 @@
 //! Counts of the kinds that a stream meets, so that a stream that never meets
 //! a kind is not taken for evidence about it.
 
+use super::demands::FAIL;
 use super::given::Given;
 use super::outcome::{Five, Ran};
 use super::positions::lost_swaps;
+use super::spans::Spans;
 use super::Violation;
 
 #[derive(Default)]
@@ -15,6 +17,10 @@ pub struct Tally {
     log: [u64; 4],
     answers: [u64; 4],
     lost_swaps: u64,
+    /// Announcements cut off after one store, and after two.
+    cut_off: [u64; 2],
+    /// Rows that failed after they had been cut off so and begun again.
+    failed_when_begun_again: u64,
     crashes: u64,
     crashes_of_all: u64,
     wakes: u64,
@@ -44,12 +50,18 @@ impl Tally {
         }
     }
 
-    pub fn ran(&mut self, given: &Given, ran: &Ran) {
+    pub fn ran(&mut self, given: &Given, ran: &Ran, spans: &Spans) {
         self.run += 1;
         count_verdicts(&mut self.log, &ran.log);
         count_verdicts(&mut self.answers, &ran.answers);
         let lost = lost_swaps(given, ran);
         self.lost_swaps += lost.iter().filter(|is_lost| **is_lost).count() as u64;
+        for (sum, count) in self.cut_off.iter_mut().zip(spans.cut_off) {
+            *sum += count;
+        }
+        let begun_again = |five: &&Five| spans.of(five.row).is_ok_and(|span| span.begun_again);
+        let failed = ran.answers.iter().filter(|five| five.verdict == FAIL);
+        self.failed_when_begun_again += failed.filter(begun_again).count() as u64;
         let actions = |high: u8| {
             let bytes = given.schedule.iter();
             bytes.filter(|byte| **byte >> 4 == high).count() as u64
@@ -81,6 +93,19 @@ impl Tally {
             answers.map(|(verdict, count)| wanted(format!("answer verdict {verdict}"), *count)),
         );
         kinds.push(wanted("lost swaps".to_string(), self.lost_swaps));
+        let [after_one, after_two] = self.cut_off;
+        kinds.push(wanted(
+            "starts cut off after 1 store".to_string(),
+            after_one,
+        ));
+        kinds.push(wanted(
+            "starts cut off after 2 stores".to_string(),
+            after_two,
+        ));
+        kinds.push(wanted(
+            "rows begun again that failed".to_string(),
+            self.failed_when_begun_again,
+        ));
         kinds.push(counted("crashes in schedules run", self.crashes));
         kinds.push(counted(
             "crashes of all in schedules run",

@@ -4,7 +4,8 @@
 use super::draft::Draft;
 use super::random::Random;
 use super::script::{
-    Opened, Script, Size, SHORT_STEPS, STEPS_TO_A1, STEPS_TO_A3, STEPS_TO_A4, SWAP_STEPS,
+    Opened, Script, Size, SHORT_STEPS, START_STEPS, STEPS_TO_A1, STEPS_TO_A3, STEPS_TO_A4,
+    SWAP_STEPS,
 };
 
 type Scene = fn(&mut Script);
@@ -22,14 +23,15 @@ pub enum Mood {
 
 impl Mood {
     /// How often each scene is played.
-    fn scenes(self, random: &mut Random) -> [(usize, Scene); 7] {
-        let [a, r, t, w, c, s, n] = match self {
+    fn scenes(self, random: &mut Random) -> [(usize, Scene); 8] {
+        let [a, r, t, w, c, o, s, n] = match self {
             Mood::Any => {
                 let crashes = random.one_of([0, 5, 20, 60]);
-                [20, 25, 15, 15, crashes, crashes / 5, crashes / 5]
+                let few = crashes / 5;
+                [20, 25, 15, 15, crashes, crashes / 2, few, few]
             }
-            Mood::Calm => [90, 2, 2, 0, 6, 0, 0],
-            Mood::Racing => [0, 1, 0, 1, 0, 0, 0],
+            Mood::Calm => [90, 2, 2, 0, 6, 0, 0, 0],
+            Mood::Racing => [0, 1, 0, 1, 0, 0, 0, 0],
         };
         [
             (a, alone),
@@ -37,6 +39,7 @@ impl Mood {
             (t, there_and_back),
             (w, weave),
             (c, crash_at_a_stage),
+            (o, cut_off_start),
             (s, storm),
             (n, noise),
         ]
@@ -109,13 +112,60 @@ fn there_and_back(script: &mut Script) {
     script.steps(first, SWAP_STEPS - before);
 }
 
-/// One process crashes after any number of steps and recovers, perhaps with
-/// another at work before or meanwhile, perhaps crashing again in recovery.
+/// One process crashes with its row open and recovers.
 fn crash_at_a_stage(script: &mut Script) {
     let (process, other) = script.two_processes();
     let word = script.any_word();
     let opened = script.open_any(process, word);
-    let done = script.random.between(1, opened.steps);
+    crash_and_recover(script, process, other, word, opened);
+}
+
+/// One process is cut off between the stores of a start, once or again and
+/// again; it wakes idle and begins the same row again. Mostly its row before
+/// was a swap that succeeded, so that a stored true and a checkpoint are
+/// there to be cleared; and often it crashes once more with the row open, so
+/// that a recovery would meet what is left of them.
+fn cut_off_start(script: &mut Script) {
+    let (process, other) = script.two_processes();
+    let word = script.any_word();
+    if script.random.percent(75) {
+        script.whole_swap(process, word);
+    }
+    let mut opened = script.open_any(process, word);
+    loop {
+        let stores = script.random.between(1, START_STEPS - 1);
+        script.steps(process, stores);
+        script.crash(process);
+        if other != process && script.random.percent(20) {
+            script.whole_swap(other, word);
+            opened = Opened::SHORT;
+        }
+        script.wake(process);
+        if script.random.percent(70) {
+            break;
+        }
+    }
+    if script.random.percent(65) {
+        crash_and_recover(script, process, other, word, opened);
+        return;
+    }
+    script.steps(process, opened.steps);
+    if let Some(new) = opened.new {
+        script.values[word] = new;
+    }
+}
+
+/// The process of an operation that is about to begin crashes after any
+/// number of steps, with its row open, and recovers, perhaps with the other
+/// one at work before or meanwhile, perhaps crashing again in recovery.
+fn crash_and_recover(
+    script: &mut Script,
+    process: usize,
+    other: usize,
+    word: usize,
+    opened: Opened,
+) {
+    let done = script.random.between(START_STEPS, opened.steps);
     let swapped = steps_perhaps_disturbed(script, process, other, word, opened, done);
     script.crash(process);
     if other != process && script.random.percent(50) {

@@ -12,16 +12,18 @@ const CRASH: u8 = 0x10;
 const WAKE: u8 = 0x20;
 const CRASH_OF_ALL: u8 = 0xF0;
 
-/// A swap takes 7 steps: start, A1 to A6.
-pub const SWAP_STEPS: usize = 7;
-/// A read, or a compare that meets another value, takes 4: start, A1, A5, A6.
-pub const SHORT_STEPS: usize = 4;
+/// A start takes 3 steps, its three stores; then the row is open.
+pub const START_STEPS: usize = 3;
+/// A swap takes 9 steps: start, A1 to A6.
+pub const SWAP_STEPS: usize = START_STEPS + 6;
+/// A read, or a compare that meets another value, takes 6: start, A1, A5, A6.
+pub const SHORT_STEPS: usize = START_STEPS + 3;
 /// After this many steps an operation has read its word.
-pub const STEPS_TO_A1: usize = 2;
+pub const STEPS_TO_A1: usize = START_STEPS + 1;
 /// After this many steps a swap has set its checkpoint.
-pub const STEPS_TO_A3: usize = 4;
+pub const STEPS_TO_A3: usize = START_STEPS + 3;
 /// After this many steps a swap has done its A4.
-pub const STEPS_TO_A4: usize = 5;
+pub const STEPS_TO_A4: usize = START_STEPS + 4;
 
 /// How large a file is to be.
 #[derive(Clone, Copy)]
@@ -51,6 +53,15 @@ pub struct Opened {
     pub steps: usize,
     /// The value that it puts in, if it is to swap.
     pub new: Option<u16>,
+}
+
+impl Opened {
+    /// An operation that puts in nothing: a read, or a compare that meets
+    /// another value.
+    pub const SHORT: Opened = Opened {
+        steps: SHORT_STEPS,
+        new: None,
+    };
 }
 
 impl<'r> Script<'r> {
@@ -152,10 +163,7 @@ impl<'r> Script<'r> {
             let new = self.palette.value_other_than(old, self.random);
             self.open_swap(process, word, old, new);
         }
-        Opened {
-            steps: SHORT_STEPS,
-            new: None,
-        }
+        Opened::SHORT
     }
 
     /// A swap from beginning to end that nobody disturbs.

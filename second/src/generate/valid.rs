@@ -3,7 +3,7 @@
 use super::draft::{Draft, DraftRow, Palette};
 use super::random::Random;
 use super::scenes::{write_scenes, Mood};
-use super::script::Size;
+use super::script::{Size, SHORT_STEPS, STEPS_TO_A3};
 
 const MOST: usize = 16;
 const MOST_ROWS: usize = 512;
@@ -19,7 +19,7 @@ pub fn short_draft(random: &mut Random) -> Draft {
     let size = Size {
         processes: random.between(1, 4),
         words: random.between(1, 3),
-        schedule: random.between(0, 60),
+        schedule: random.between(0, 75),
         spare_rows: random.one_of([0, 0, 2]),
     };
     draft_of(size, random)
@@ -43,7 +43,9 @@ pub fn quiet_draft(random: &mut Random) -> Draft {
     let processes = random.between(4, MOST) as u8;
     let rows = (0..processes).map(|process| DraftRow::swap(process, 0, 7, 8));
     // Start, A1, A2 and A3, so that the checkpoint is set.
-    let mut schedule: Vec<u8> = (0..processes).flat_map(|process| [process; 4]).collect();
+    let mut schedule: Vec<u8> = (0..processes)
+        .flat_map(|process| [process; STEPS_TO_A3])
+        .collect();
     while schedule.len() < LONGEST_SCHEDULE {
         let process = random.below(processes.into()) as u8;
         // V1, V2 and V3: one more step would answer.
@@ -106,7 +108,7 @@ fn write_wild(size: Size, random: &mut Random) -> Draft {
     let words = (0..size.words)
         .map(|_| palette.start_word(random))
         .collect();
-    let row_count = size.schedule / 5 + size.spare_rows;
+    let row_count = size.schedule / SHORT_STEPS + size.spare_rows;
     let mut owners: Vec<u8> = (0..row_count)
         .map(|_| random.below(size.processes) as u8)
         .collect();
@@ -120,7 +122,7 @@ fn write_wild(size: Size, random: &mut Random) -> Draft {
 }
 
 fn wild_schedule(size: Size, random: &mut Random) -> Vec<u8> {
-    let longest_burst = random.one_of([1, 3, 8]);
+    let longest_burst = random.one_of([1, 3, 10]);
     let crashes = random.one_of([0, 2, 8]);
     let mut schedule = Vec::new();
     while schedule.len() < size.schedule {

@@ -87,6 +87,7 @@ impl<'f> Machine<'f> {
         match self.processes[process].status {
             Status::Down => {}
             Status::Idle => self.processes[process].start(),
+            Status::Announcing(store) => self.processes[process].announce(store),
             Status::AtWork { row, stage } => {
                 let turn = Turn {
                     process,

@@ -1,5 +1,6 @@
 //! The machine of document 01: it "runs a schedule of steps, crashes and
-//! wakings over shared words that survive a crash".
+//! wakings over shared words that survive a crash". Start is the three steps
+//! of change request 1.
 //!
 //! The way of a run: [`run_file`] reads and checks the file (refusals 1 to
 //! 12), [`lending`] checks the buffers (13 to 15) and writes the outcome into
@@ -18,5 +19,7 @@ mod word;
 pub use lending::{run, Buffers, Ran};
 pub use refusal::Refusal;
 
+#[cfg(test)]
+mod announcement_tests;
 #[cfg(test)]
 mod refusal_tests;

@@ -5,7 +5,7 @@ use super::word::Word;
 
 /// A stage of an operation (A) or of a recovery (V), with just what that
 /// stage still needs. "All that is volatile."
-#[derive(Clone, Copy, Debug)]
+#[derive(Clone, Copy, Debug, PartialEq, Eq)]
 pub enum Stage {
     A1,
     A2(Attempt),
@@ -23,7 +23,7 @@ pub enum Stage {
 
 /// A swap on its way from A1 to A4: "the word it read" and the position of
 /// its A1, beside the new value of its row.
-#[derive(Clone, Copy, Debug)]
+#[derive(Clone, Copy, Debug, PartialEq, Eq)]
 pub struct Attempt {
     pub seen: Word,
     pub new: u16,
@@ -31,7 +31,7 @@ pub struct Attempt {
 }
 
 /// What A5 owes the log for the answer that it stores.
-#[derive(Clone, Copy, Debug)]
+#[derive(Clone, Copy, Debug, PartialEq, Eq)]
 pub enum Due {
     /// "A swap that succeeds enters the log at A4", so nothing is owed at A5.
     Nothing,
@@ -42,12 +42,24 @@ pub enum Due {
     LostSwap { a1: u32, a4: u32 },
 }
 
-/// "At any moment a process is down, idle, or in the midst of work".
-#[derive(Clone, Copy, Debug)]
+/// "At any moment a process is down, idle, or in the midst of work". Work
+/// begins with the announcement (change request 1): until its last store no
+/// row is open, so there is none to name.
+#[derive(Clone, Copy, Debug, PartialEq, Eq)]
 pub enum Status {
     Down,
     Idle,
+    Announcing(Store),
     AtWork { row: usize, stage: Stage },
+}
+
+/// The store of an announcement that is to come next. "The terminal clears
+/// the stored answer, then clears the checkpoint, then opens the row"; the
+/// first is the step of an idle process.
+#[derive(Clone, Copy, Debug, PartialEq, Eq)]
+pub enum Store {
+    ClearCheckpoint,
+    OpenRow,
 }
 
 /// "Kept through a crash: the open row, if any; the stored answer or none;
@@ -100,19 +112,44 @@ impl Process {
         }
     }
 
-    /// "Start (idle, rows left): open the next row, clear the stored answer,
-    /// checkpoint 0." "a step of an idle one with no rows left" changes nothing.
+    /// Start, for one that is idle: if rows are left, the announcement's first
+    /// store, "clears the stored answer". "a step of an idle one with no rows
+    /// left" changes nothing.
     pub fn start(&mut self) {
-        if let Some(&row) = self.rows.get(self.kept.begun) {
+        if self.next_row().is_some() {
+            self.kept.stored = None;
+            self.status = Status::Announcing(Store::ClearCheckpoint);
+        }
+    }
+
+    /// The announcement's second store and its third. "A process cut off
+    /// before the third has no row open, wakes idle and begins the same row
+    /// again", so the row counts as begun with the third only.
+    pub fn announce(&mut self, store: Store) {
+        match store {
+            Store::ClearCheckpoint => {
+                self.kept.checkpoint = false;
+                self.status = Status::Announcing(Store::OpenRow);
+            }
+            Store::OpenRow => self.open_next_row(),
+        }
+    }
+
+    /// Only one with rows left comes here, and it begins none meanwhile.
+    fn open_next_row(&mut self) {
+        if let Some(row) = self.next_row() {
             self.kept.begun += 1;
             self.kept.open_row = Some(row);
-            self.kept.stored = None;
-            self.kept.checkpoint = false;
             self.status = Status::AtWork {
                 row,
                 stage: Stage::A1,
             };
         }
+    }
+
+    /// The row that it has to begin next, if any is left.
+    fn next_row(&self) -> Option<usize> {
+        self.rows.get(self.kept.begun).copied()
     }
 
     /// After a stage: on to the next, or, if there is none, "the row is
@@ -125,5 +162,107 @@ impl Process {
                 self.status = Status::Idle;
             }
         }
+    }
+}
+
+#[cfg(test)]
+mod tests {
+    use super::*;
+
+    /// Idle, one row left, and all that a swap that succeeded leaves: a stored
+    /// true, the checkpoint and the kept bit.
+    fn behind_a_swap() -> Process {
+        Process {
+            rows: vec![4, 6],
+            kept: Kept {
+                open_row: None,
+                stored: Some(Verdict::True),
+                checkpoint: true,
+                kept_bit: true,
+                begun: 1,
+            },
+            status: Status::Idle,
+        }
+    }
+
+    fn step(process: &mut Process) {
+        match process.status {
+            Status::Idle => process.start(),
+            Status::Announcing(store) => process.announce(store),
+            Status::Down | Status::AtWork { .. } => panic!("no announcement here"),
+        }
+    }
+
+    /// Stored answer, checkpoint, open row and rows begun.
+    fn stores(process: &Process) -> (Option<Verdict>, bool, Option<usize>, usize) {
+        let kept = &process.kept;
+        (kept.stored, kept.checkpoint, kept.open_row, kept.begun)
+    }
+
+    const AFTER_EACH_STORE: [(Option<Verdict>, bool, Option<usize>, usize); 4] = [
+        (Some(Verdict::True), true, None, 1),
+        (None, true, None, 1),
+        (None, false, None, 1),
+        (None, false, Some(6), 2),
+    ];
+
+    #[test]
+    fn an_announcement_is_three_stores_in_their_order() {
+        let mut process = behind_a_swap();
+        assert_eq!(stores(&process), AFTER_EACH_STORE[0]);
+        for after in &AFTER_EACH_STORE[1..] {
+            step(&mut process);
+            assert_eq!(stores(&process), *after);
+            assert!(process.kept.kept_bit);
+        }
+        let (row, stage) = (6, Stage::A1);
+        assert_eq!(process.status, Status::AtWork { row, stage });
+    }
+
+    #[test]
+    fn a_crash_keeps_the_stores_made_and_a_wake_finds_the_row_open_or_not() {
+        for (made, after) in AFTER_EACH_STORE.iter().enumerate() {
+            let mut process = behind_a_swap();
+            for _ in 0..made {
+                step(&mut process);
+            }
+            process.crash();
+            assert_eq!(process.status, Status::Down);
+            process.wake();
+            assert_eq!(stores(&process), *after);
+            let (row, stage) = (6, Stage::V1);
+            let expected = match made {
+                3 => Status::AtWork { row, stage },
+                _ => Status::Idle,
+            };
+            assert_eq!(process.status, expected);
+        }
+    }
+
+    #[test]
+    fn one_cut_off_begins_with_the_first_store_again() {
+        for made in 1..=2 {
+            let mut process = behind_a_swap();
+            for _ in 0..made {
+                step(&mut process);
+            }
+            process.crash();
+            process.wake();
+            step(&mut process);
+            let expected = Status::Announcing(Store::ClearCheckpoint);
+            assert_eq!(process.status, expected);
+            step(&mut process);
+            step(&mut process);
+            assert_eq!(stores(&process), AFTER_EACH_STORE[3]);
+        }
+    }
+
+    #[test]
+    fn one_with_no_rows_left_clears_nothing() {
+        let mut process = behind_a_swap();
+        process.kept.begun = 2;
+        process.start();
+        assert_eq!(process.status, Status::Idle);
+        assert_eq!(stores(&process), (Some(Verdict::True), true, None, 2));
     }
 }

@@ -158,14 +158,15 @@ fn the_longest_file_has_5195_bytes_and_is_not_refused() {
     file.extend([0x0F; 1024]);
     assert_eq!(file.len(), 5195);
     let ran = run(&file, &mut lent(16, 5120, 5120));
-    // A read takes four steps, so 1,024 steps answer 256 of the rows.
+    // A read takes six steps, so 1,024 steps answer 170 of the rows; the four
+    // steps left over do not come to an A5.
     let expected = Ran {
         processes: 16,
         words: 16,
         rows: 512,
         schedule: 1024,
-        log_rows: 256,
-        answer_rows: 256,
+        log_rows: 170,
+        answer_rows: 170,
     };
     assert_eq!(ran, Ok(expected));
 }
@@ -173,17 +174,18 @@ fn the_longest_file_has_5195_bytes_and_is_not_refused() {
 /// "All numbers beyond stay as they were."
 #[test]
 fn a_run_writes_from_the_front_and_nothing_beyond() {
-    let mut file = FILE.to_vec();
-    file[43..].copy_from_slice(&[1, 1, 1, 1]);
-    let mut buffers = lent(4, 25, 25);
+    let mut file = with(&[(9, 6)]);
+    file.truncate(43);
+    file.extend([1; 6]);
+    let mut buffers = lent(4, 35, 35);
     assert!(run(&file, &mut buffers).is_ok());
     assert_eq!(buffers.words, [7, 0x0001_0009, 11, 11]);
-    assert_eq!(buffers.log, [12; 25]);
-    assert_eq!(buffers.answers, [13; 25]);
+    assert_eq!(buffers.log, [12; 35]);
+    assert_eq!(buffers.answers, [13; 35]);
 
     file[19..27].copy_from_slice(&[0, 0, 1, 0, 0, 0, 0, 0]);
-    file[43..].copy_from_slice(&[0, 0, 0, 0]);
+    file[43..].copy_from_slice(&[0; 6]);
     assert!(run(&file, &mut buffers).is_ok());
-    assert_eq!(buffers.log[..6], [1, 0, 0, 3, 9, 12]);
-    assert_eq!(buffers.answers[..6], [3, 0, 0, 3, 9, 13]);
+    assert_eq!(buffers.log[..6], [3, 0, 0, 3, 9, 12]);
+    assert_eq!(buffers.answers[..6], [5, 0, 0, 3, 9, 13]);
 }

@@ -5,8 +5,8 @@ use borrow.Author.Needs.{needs}
 use Rattle.machine.proofs.records.start.Statement.{statement}
 use Rattle.machine.proofs.records.start.Tie as tie
 
-add-t6 : tie.Need-add-t6
-add-t6 c = search needs
+add-t7 : tie.Need-add-t7
+add-t7 c = search needs
 
 add-t9 : tie.Need-add-t9
 add-t9 c = search needs
@@ -15,4 +15,4 @@ returns : tie.Need-returns
 returns c = rw (add-one (c .before .before .args .process .begun))
 
 pub start-spec : {M : Type 1} → statement M
-start-spec = tie.close (tie.spec add-t6 add-t9 returns)
+start-spec = tie.close (tie.spec add-t7 add-t9 returns)

@@ -21,6 +21,12 @@ enum-told-2 c = search needs
 enum-told-3 : tie.Need-enum-told-3
 enum-told-3 c = search needs
 
+enum-told-4 : tie.Need-enum-told-4
+enum-told-4 c = search needs
+
+enum-told-5 : tie.Need-enum-told-5
+enum-told-5 c = search needs
+
 returns : tie.Need-returns
 returns c = let t = c .before .before in
     let r = t .before .before .args .process in
@@ -32,6 +38,12 @@ returns-2 c = sym (ap (waked (c .before .before .args .process)) (c .enum-told2 
 returns-3 : tie.Need-returns-3
 returns-3 c = sym (ap (waked (c .before .before .args .process)) (c .enum-told3 .given .1))
 
+returns-4 : tie.Need-returns-4
+returns-4 c = sym (ap (waked (c .before .before .args .process)) (c .enum-told4 .given .1))
+
+returns-5 : tie.Need-returns-5
+returns-5 c = sym (ap (waked (c .before .before .args .process)) (c .enum-told5 .given .1))
+
 pub wake-spec : {M : Type 1} → statement M
 wake-spec =
     tie.close
@@ -41,6 +53,10 @@ wake-spec =
     with-status-requires
     enum-told-2
     enum-told-3
+    enum-told-4
+    enum-told-5
     returns
     returns-2
-    returns-3)
+    returns-3
+    returns-4
+    returns-5)

@@ -7,8 +7,9 @@ use Rattle.runfile.specs.Layout.{rowAt}
 use Rattle.machine.specs.declared.Status.{Status}
 use Rattle.machine.specs.declared.Turn.{Turn}
 use Rattle.machine.specs.declared.Opened.the-variants.{Row as Open}
-use Rattle.machine.specs.Records.{rowOpen, WorkOpen}
+use Rattle.machine.specs.Records.{rowOpen, WorkOpen, Announcing}
 use Rattle.machine.specs.Steps.{stepTurn, working}
+use native.Mathlib.Omega.{arith}
 use borrow.Author.Tests.{lt-ltb, le-ltb}
 use mathlib.Core.Path.{_≡_, sym, ap, subst, _∙_}
 use borrow.Author.Needs.{needs}
@@ -39,13 +40,30 @@ enum-told c = search needs
 enum-told-2 : tie.Need-enum-told-2
 enum-told-2 c = search needs
 
-start-requires : tie.Need-start-requires
-start-requires c κs = search needs
+with-stored-requires : tie.Need-with-stored-requires
+with-stored-requires c κs = search needs
 
 returns : tie.Need-returns
 unfolding stepTurn
 returns c = let t = c .before .before .before in
-    rw (c .start .ensures) (sym (ap (came (t .before .before .before .before)) (t .enum-told2 .given .1) ∙ rw (lt-ltb _ _ (c .before .if1 .taken))))
+    rw (c .with-stored .ensures) (sym (ap (came (t .before .before .before .before)) (t .enum-told2 .given .1) ∙ rw (lt-ltb _ _ (c .before .if1 .taken))))
+
+enum-told-3 : tie.Need-enum-told-3
+enum-told-3 c = search needs
+
+with-checkpoint-requires : tie.Need-with-checkpoint-requires
+with-checkpoint-requires c κs = search needs
+
+enum-told-4 : tie.Need-enum-told-4
+enum-told-4 c = search needs
+
+-- a row that is announced is there, so its number fits
+start-requires : tie.Need-start-requires
+start-requires c κs =
+    let s = c .before .before .before .before in
+    let left = s .pre .left (subst Announcing (sym (c .enum-told4 .given .1)) tt) in
+    let few = s .pre .few in
+    omega arith
 
 enum-known-status : tie.Need-enum-known-status
 enum-known-status c = search needs
@@ -72,7 +90,17 @@ returns-3 c = let t = c .before .before in
 
 returns-4 : tie.Need-returns-4
 unfolding stepTurn
-returns-4 c = let i = c .before in
+returns-4 c = let t = c .before in
+    rw (c .with-checkpoint .ensures) (sym (ap (came (t .before .before .before .before)) (t .enum-told3 .given .1)))
+
+returns-5 : tie.Need-returns-5
+unfolding stepTurn
+returns-5 c = let t = c .before in
+    rw (c .start .ensures) (sym (ap (came (t .before .before .before .before)) (t .enum-told4 .given .1)))
+
+returns-6 : tie.Need-returns-6
+unfolding stepTurn
+returns-6 c = let i = c .before in
     let b = i .before .before .before in
     (rw (row-is i) at (c .turn-of .ensures)) ∙ sym (ap (came (start-of b)) (b .status .given .1) ∙ working _ _ _ _ _ _ _ _ _ _ _ _ (opened b .1))
 
@@ -82,12 +110,18 @@ step-of-spec =
     (tie.spec
     enum-told
     enum-told-2
-    start-requires
+    with-stored-requires
     returns
+    enum-told-3
+    with-checkpoint-requires
+    enum-told-4
+    start-requires
     enum-known-status
     open-row-requires
     index16-requires
     turn-of-requires
     returns-2
     returns-3
-    returns-4)
+    returns-4
+    returns-5
+    returns-6)

@@ -84,7 +84,7 @@ reach l k h =
     let w = p .lined .whole in
     record { row = omega arith; word = rw (l .loop .inv .words-same) (p .on-words k h) }
 
-sane-of : (c : tie.After-process Inv-loop μ-loop) → Sane (rows (head c)) (record-of (head c))
+sane-of : (c : tie.After-process Inv-loop μ-loop) → Sane (rows (head c)) (me (head c)) (record-of (head c))
 sane-of c = sane-mine (head c .loop .inv) (inside c)
 
 -- a byte below 16 is a step
@@ -225,7 +225,7 @@ step-of-requires c κs = let p = c .before .before .before in
     let g = length-rowsFrom (table l) 0 (n l) in
     let d = begins l .pre .lined .few in
     let sane = sane-of p in
-    rw (at-me p, firsts-are l, counts-are l) (record { present = omega arith; few = omega arith; works = sane .works; reach = λ k e. reach l k (rw g at (sane .in-file k e)) })
+    rw (at-me p, firsts-are l, counts-are l) (record { present = omega arith; few = omega arith; works = sane .works; left = sane .left; reach = λ k e. reach l k (rw g at (sane .in-file k e)) })
 
 enum-told : tie.Need-enum-told Inv-loop μ-loop
 enum-told c = search needs
