@@ -1,5 +1,6 @@
 -- Each refusal is given exactly when the table says: `exactly`. The tests of Refusals.antt say what the propositions of Table.antt
--- say (`tells-..`); a search finds what is first (`first-iff`); and the checks go in the order of their numbers.
+-- say (`tells-..`); a search finds what is first (`first-iff`, and for 9, a search in a search,
+-- `field-found` and `found-field`); and the checks go in the order of their numbers.
 -- Assumes nothing.
 use Prim.Native.Nat.{ℕ, zero, suc, _+_, _*_, _-_, _/_, _%_, _≤_, _<_}
 use mathlib.Core.Path.{_≡_, refl, sym, ap, _∙_, subst}
@@ -9,21 +10,25 @@ use mathlib.Core.List.{List, [], _∷_}
 use native.Mathlib.Omega.{arith}
 use lib.Dec.{leb, ltb, eqb}
 use lib.ListN.{getD, length}
-use borrow.Author.Tests.{ltb-true, ltb-false, leb-true, eqb-true, eqb-false, not-true, not-false, eq-eqb}
+use borrow.Author.Tests.{ltb-true, ltb-false, leb-true, leb-false, eqb-true, eqb-false, not-true, not-false, eq-eqb}
 use Rattle.runfile.specs.declared.Header.{Header}
 use Rattle.runfile.specs.declared.Row.{Row}
+use Rattle.runfile.specs.declared.Field.{Field}
+use Rattle.runfile.specs.declared.Field.the-variants as field
 use Rattle.runfile.specs.declared.Room.{Room}
 use Rattle.runfile.specs.declared.Refusal.{Refusal}
 use Rattle.runfile.specs.declared.Refusal.the-variants as refusal
 use Rattle.runfile.specs.declared.Found.{Found}
 use Rattle.runfile.specs.declared.Found.the-variants.{Nowhere, At}
 use Rattle.runfile.specs.declared.Checked.the-variants.{Accepted, Refused}
-use Rattle.runfile.specs.Layout.{marked, headerIn, scheduleIn, lengthGiven}
+use Rattle.runfile.specs.Layout.{marked, headerIn, rowsStart, rowPlace, scheduleIn, lengthGiven}
+use Rattle.runfile.specs.Fields.{fields, fieldAt, offsetOf, orderOf, ordered, order-at, rising}
 use Rattle.runfile.specs.Actions.{crashAll, none, actionOf}
-use Rattle.runfile.specs.Refusals.{numberOf, outOfRange, badFields, sameFields, badAction, badByte, firstOffender, firstRow, firstLaterRow, firstByte, whole, found, orElse, firstOf, inOrder, refusalOf}
-use Rattle.runfile.specs.Table.{Marked, BadRow, BadByte, First, rowOf, zeroByteOf, byteOf, Given, Earlier}
+use Rattle.runfile.specs.Refusals.{numberOf, outOfRange, badRead, badField, badIn, sameFields, badAction, badByte, foundIf, firstOffender, badFieldIn, firstBadField, firstRow, firstLaterRow, firstByte, whole, found, orElse, firstOf, inOrder, refusalOf}
+use Rattle.runfile.specs.Table.{Marked, BadRead, BadField, BadIn, FirstBadField, BadByte, First, rowOf, zeroByteOf, byteOf, Given, Earlier}
 use Rattle.runfile.specs.Table as table
-use Rattle.runfile.specs.Lawful.{LawfulRow, LawfulByte, of-one, of-all, has-mark, in-range, lawful-row, lawful-byte, high-action, lawful}
+use Rattle.runfile.specs.Lawful.{LawfulByte, of-one, of-all, has-mark, in-range, not-both, no-bad-field, lawful-byte, high-action, lawful}
+use Rattle.runfile.specs.Searches.{not-found, is-found, Earliest, earliest, found-earliest, found-none}
 use Rattle.runfile.specs.Order.{Clear, accepts, accepted}
 
 -- a test says what a proposition says
@@ -34,38 +39,36 @@ record Tells (t : Bool) (Bad : Type 0) : Type 0 where
 less : (a b : ℕ) → Tells (ltb a b) (a < b)
 less a b = record { true-is = ltb-true a b; false-is = λ e h. let q = ltb-false a b e in omega arith }
 
+at-least : (a b : ℕ) → Tells (leb a b) (a ≤ b)
+at-least a b = record { true-is = leb-true a b; false-is = λ e h. let q = leb-false a b e in omega arith }
+
 differs : (a b : ℕ) → Tells (not (eqb a b)) (a ≡ b → ⊥)
 differs a b = record { true-is = λ e. eqb-false a b (not-true (eqb a b) e); false-is = λ e h. h (eqb-true a b (not-false (eqb a b) e)) }
 
+-- so where the proposition is known, so is the test
+said-true : (t : Bool) (Bad : Type 0) → Tells t Bad → Bad → t ≡ true
+said-true true Bad tells b = refl
+said-true false Bad tells b = absurd (tells .false-is refl b)
+
+said-false : (t : Bool) (Bad : Type 0) → Tells t Bad → (Bad → ⊥) → t ≡ false
+said-false true Bad tells n = absurd (n (tells .true-is refl))
+said-false false Bad tells n = refl
+
 module _ (place : ℕ → ℕ) (offends : ℕ → Bool) (Bad : ℕ → Type 0) (tells : (k : ℕ) → Tells (offends k) (Bad k)) where
   first-found : (k n at : ℕ) → firstOffender place offends k n ≡ At at → First k n place Bad at
-  first-found k zero at e = absurd (let z : _≡_ {A = ℕ} 0 1 = cc in omega arith)
-  first-found k (suc n) at e = go (offends k) refl (first-found (suc k) n at) e
-    where
-      earlier : (m : First (suc k) n place Bad at) → offends k ≡ false → (j : ℕ) → k ≤ j → j < m .which → Bad j → (later : Bool) → ltb k j ≡ later → ⊥
-      earlier m q j a b bad true l = m .none-before j (let h = ltb-true k j l in omega arith) b bad
-      earlier m q j a b bad false l = let same : j ≡ k = (let h = ltb-false k j l in omega arith) in tells k .false-is q (subst Bad same bad)
-
-      go : (t : Bool) → offends k ≡ t → (firstOffender place offends (suc k) n ≡ At at → First (suc k) n place Bad at) → cond t (At (place k)) (firstOffender place offends (suc k) n) ≡ At at → First k (suc n) place Bad at
-      go true q more e = record { which = k; after = omega arith; within = omega arith; bad = tells k .true-is q; none-before = λ j a b bad. omega arith; here = cc }
-      go false q more e =
-          let m = more e in
-          let a = m .after in
-          let w = m .within in
-          record { which = m .which; after = omega arith; within = omega arith; bad = m .bad; none-before = λ j a b bad. earlier m q j a b bad (ltb k j) refl; here = m .here }
+  first-found k n at e =
+      let m = earliest (λ i. foundIf (offends i) (place i)) k n at e in
+      let t = is-found (offends (m .which)) (place (m .which)) at (m .found) in
+      record { which = m .which; after = m .after; within = m .within; bad = tells (m .which) .true-is (t .0); none-before = λ j a b. tells j .false-is (not-found (offends j) (place j) (m .none-before j a b)); here = t .1 }
 
   found-first : (k n at : ℕ) → First k n place Bad at → firstOffender place offends k n ≡ At at
-  found-first k zero at m = absurd (let a = m .after in let w = m .within in omega arith)
-  found-first k (suc n) at m = go (offends k) refl (found-first (suc k) n at) (ltb k (m .which)) refl
-    where
-      go : (t : Bool) → offends k ≡ t → (First (suc k) n place Bad at → firstOffender place offends (suc k) n ≡ At at) → (later : Bool) → ltb k (m .which) ≡ later → cond t (At (place k)) (firstOffender place offends (suc k) n) ≡ At at
-      go true q more true l = absurd (m .none-before k (omega arith) (ltb-true _ _ l) (tells k .true-is q))
-      go true q more false l = let same : m .which ≡ k = (let h = ltb-false k (m .which) l in let a = m .after in omega arith) in ap At (sym (m .here ∙ ap place same))
-      go false q more true l =
-          let h = ltb-true k (m .which) l in
-          let w = m .within in
-          more (record { which = m .which; after = omega arith; within = omega arith; bad = m .bad; none-before = λ j a b. m .none-before j (omega arith) b; here = m .here })
-      go false q more false l = let same : m .which ≡ k = (let h = ltb-false k (m .which) l in let a = m .after in omega arith) in absurd (tells k .false-is q (subst Bad same (m .bad)))
+  found-first k n at m = found-earliest (λ i. foundIf (offends i) (place i)) k n at (record {
+    which = m .which;
+    after = m .after;
+    within = m .within;
+    found = rw (said-true _ _ (tells (m .which)) (m .bad), m .here);
+    none-before = λ j a b. rw (said-false _ _ (tells j) (m .none-before j a b));
+  })
 
   first-iff : (k n at : ℕ) → (firstOffender place offends k n ≡ At at) ↔ First k n place Bad at
   first-iff k n at = (first-found k n at, found-first k n at)
@@ -96,36 +99,72 @@ tells-range n = record {
   false-is = λ e h. let r = in-range n e in let a = r .0 in let b = r .1 in ⊎-elim (λ q. omega arith) (λ q. omega arith) h;
 }
 
-bad-row : (h : Header) (row : Row) (z : ℕ) → badFields h row z ≡ true → BadRow h row z
-unfolding badFields
-bad-row h row z e = ⊎-elim (λ t. table.process (leb-true _ _ t)) kinds (either-true (leb (h .processes) (row .process)) _ e)
-  where
-    reads : (eqb (row .kind) 0 && (not (eqb (row .old) 0) || not (eqb (row .new) 0))) ≡ true → BadRow h row z
-    reads e =
-        let b = both-true (eqb (row .kind) 0) (not (eqb (row .old) 0) || not (eqb (row .new) 0)) e in
-        let k = eqb-true _ _ (b .0) in
-        ⊎-elim (λ t. table.read-old k (eqb-false _ _ (not-true _ t))) (λ t. table.read-new k (eqb-false _ _ (not-true _ t))) (either-true (not (eqb (row .old) 0)) (not (eqb (row .new) 0)) (b .1))
+-- "a read whose old or new is not 0": one of the two
+tells-read : (kind n : ℕ) → Tells (badRead kind n) (BadRead kind n)
+tells-read kind n = record {
+  true-is = λ e. let b = both-true (eqb kind 0) (not (eqb n 0)) e in (eqb-true _ _ (b .0), differs n 0 .true-is (b .1));
+  false-is = λ e h. differs n 0 .false-is (not-both (eqb kind 0) (not (eqb n 0)) e (eq-eqb kind 0 (h .0))) (h .1);
+}
 
-    zeros : (not (eqb z 0) || (eqb (row .kind) 0 && (not (eqb (row .old) 0) || not (eqb (row .new) 0)))) ≡ true → BadRow h row z
-    zeros e = ⊎-elim (λ t. table.zero-byte (eqb-false _ _ (not-true _ t))) reads (either-true (not (eqb z 0)) _ e)
+tells-field : (h : Header) (row : Row) (z : ℕ) (x : Field) → Tells (badField h row z x) (BadField h row z x)
+unfolding badField
+tells-field h row z field.Process = at-least (h .processes) (row .process)
+tells-field h row z field.Kind = less 1 (row .kind)
+tells-field h row z field.Word = at-least (h .words) (row .word)
+tells-field h row z field.ZeroByte = differs z 0
+tells-field h row z field.Old = tells-read (row .kind) (row .old)
+tells-field h row z field.New = tells-read (row .kind) (row .new)
 
-    words : (leb (h .words) (row .word) || (not (eqb z 0) || (eqb (row .kind) 0 && (not (eqb (row .old) 0) || not (eqb (row .new) 0))))) ≡ true → BadRow h row z
-    words e = ⊎-elim (λ t. table.word (leb-true _ _ t)) zeros (either-true (leb (h .words) (row .word)) _ e)
+-- 9: both searches, over the rows and in the row, find what is first
+module _ (h : Header) (f : List ℕ) (at : ℕ) where
+  abbrev start : ℕ
+  start = rowsStart h
 
-    kinds : (ltb 1 (row .kind) || (leb (h .words) (row .word) || (not (eqb z 0) || (eqb (row .kind) 0 && (not (eqb (row .old) 0) || not (eqb (row .new) 0)))))) ≡ true → BadRow h row z
-    kinds e = ⊎-elim (λ t. table.kind (ltb-true _ _ t)) words (either-true (ltb 1 (row .kind)) _ e)
+  abbrev inRow : ℕ → ℕ → Found
+  inRow k i = foundIf (badIn h f start k (fieldAt i)) (rowPlace start k + offsetOf (fieldAt i))
 
--- a row is not both
-not-both-rows : (h : Header) (row : Row) (z : ℕ) → LawfulRow h row z → BadRow h row z → ⊥
-not-both-rows h row z l (table.process b) = let a = l .process in omega arith
-not-both-rows h row z l (table.kind b) = let a = l .kind in omega arith
-not-both-rows h row z l (table.word b) = let a = l .word in omega arith
-not-both-rows h row z l (table.zero-byte b) = b (l .zero-byte)
-not-both-rows h row z l (table.read-old k b) = b (l .read-old k)
-not-both-rows h row z l (table.read-new k b) = b (l .read-new k)
+  tells-in : (k : ℕ) (x : Field) → Tells (badIn h f start k x) (BadIn h f k x)
+  tells-in k x = tells-field h (rowOf h f k) (zeroByteOf h f k) x
 
-tells-row : (h : Header) (row : Row) (z : ℕ) → Tells (badFields h row z) (BadRow h row z)
-tells-row h row z = record { true-is = bad-row h row z; false-is = λ e. not-both-rows h row z (lawful-row h row z e) }
+  field-found : firstBadField h f start (h .rows) ≡ At at → FirstBadField h f at
+  unfolding firstBadField
+  field-found e =
+      let m = earliest (badFieldIn h f start) 0 (h .rows) at e in
+      let i = earliest (inRow (m .which)) 0 (length fields) at (m .found) in
+      let t = is-found (badIn h f start (m .which) (fieldAt (i .which))) _ at (i .found) in
+      let w = m .within in
+      record {
+        row = m .which;
+        within = omega arith;
+        field = fieldAt (i .which);
+        bad = tells-in (m .which) (fieldAt (i .which)) .true-is (t .0);
+        no-row-before = λ j l x. tells-in j x .false-is (no-bad-field h f start j (m .none-before j (omega arith) l) x);
+        no-field-before = λ x l. tells-in (m .which) x .false-is (before m i x l);
+        here = t .1;
+      }
+    where
+      before : (m : Earliest (badFieldIn h f start) 0 (h .rows) at) (i : Earliest (inRow (m .which)) 0 (length fields) at) (x : Field) → offsetOf x < offsetOf (fieldAt (i .which)) → badIn h f start (m .which) x ≡ false
+      before m i x l =
+          let o = ordered x in
+          let up = rising x (fieldAt (i .which)) .0 l in
+          let number = order-at (i .which) (i .within) in
+          subst (λ y. badIn h f start (m .which) y ≡ false) (o .1) (not-found (badIn h f start (m .which) (fieldAt (orderOf x))) _ (i .none-before (orderOf x) (omega arith) (omega arith)))
+
+  found-field : FirstBadField h f at → firstBadField h f start (h .rows) ≡ At at
+  unfolding firstBadField
+  found-field m = found-earliest (badFieldIn h f start) 0 (h .rows) at (record {
+    which = m .row;
+    after = omega arith;
+    within = let w = m .within in omega arith;
+    found = found-earliest (inRow (m .row)) 0 (length fields) at (record {
+      which = orderOf (m .field);
+      after = omega arith;
+      within = ordered (m .field) .0;
+      found = rw (ordered (m .field) .1, said-true _ _ (tells-in (m .row) (m .field)) (m .bad), m .here);
+      none-before = λ j a b. rw (said-false _ _ (tells-in (m .row) (fieldAt j)) (m .no-field-before (fieldAt j) (rising (fieldAt j) (m .field) .1 (let n = order-at j (let o = ordered (m .field) .0 in omega arith) in omega arith))));
+    });
+    none-before = λ j a b. found-none (inRow j) 0 (length fields) (λ i c d. rw (said-false _ _ (tells-in j (fieldAt i)) (m .no-row-before j b (fieldAt i))));
+  })
 
 tells-same : (row : Row) → Tells (sameFields row) ((row .kind ≡ 1) × (row .old ≡ row .new))
 unfolding sameFields
@@ -170,7 +209,7 @@ line h f room refusal.Words at = whole-iff _ _ at (tells-range (h .words))
 line h f room refusal.Rows at = whole-iff _ _ at (less 512 (h .rows))
 line h f room refusal.Steps at = whole-iff _ _ at (less 1024 (h .steps))
 line h f room refusal.Length at = whole-iff _ _ at (differs (length f) (lengthGiven h))
-line h f room refusal.Row at = first-iff _ _ _ (λ k. tells-row h (rowOf h f k) (zeroByteOf h f k)) 0 (h .rows) at
+line h f room refusal.Row at = (field-found h f at, found-field h f at)
 line h f room refusal.Order at = first-iff _ _ _ (λ k. less (rowOf h f k .process) (rowOf h f (k - 1) .process)) 1 (h .rows - 1) at
 line h f room refusal.Same at = first-iff _ _ _ (λ k. tells-same (rowOf h f k)) 0 (h .rows) at
 line h f room refusal.Action at = first-iff _ _ _ (λ i. tells-byte (h .processes) (byteOf h f i)) 0 (length (scheduleIn h f)) at

@@ -1,23 +1,27 @@
 -- What a file is like that is not refused: the facts that later layers use, read off the checks that found nothing.
 -- Assumes nothing.
 use Prim.Native.Nat.{ℕ, zero, suc, _+_, _*_, _-_, _/_, _%_, _≤_, _<_}
-use mathlib.Core.Path.{_≡_, refl, sym}
+use mathlib.Core.Path.{_≡_, refl, sym, subst}
 use mathlib.Core.Bool.{Bool, true, false, cond, not, _&&_, _||_}
 use mathlib.Core.List.{List}
 use native.Mathlib.Omega.{arith}
-use lib.Dec.{leb, ltb, eqb}
+use lib.Dec.{ltb, eqb}
 use lib.ListN.{getD, length, length-drop}
-use borrow.Author.Tests.{ltb-true, ltb-false, leb-false, eqb-false, eqb-true, not-false, eq-eqb, ne-eqb}
+use borrow.Author.Tests.{ltb-false, leb-false, eqb-false, eqb-true, not-false, eq-eqb, ne-eqb}
 use Rattle.runfile.specs.declared.Header.{Header}
 use Rattle.runfile.specs.declared.Row.{Row}
+use Rattle.runfile.specs.declared.Field.{Field}
+use Rattle.runfile.specs.declared.Field.the-variants as field
 use Rattle.runfile.specs.declared.Room.{Room}
-use Rattle.runfile.specs.declared.Found.the-variants.{Nowhere, At}
+use Rattle.runfile.specs.declared.Found.the-variants.{Nowhere}
 use Rattle.runfile.specs.declared.Checked.the-variants.{Accepted}
 use Rattle.runfile.specs.Layout.{headSize, longestFile, marked, headerIn, rowsStart, rowPlace, scheduleStart, scheduleIn, lengthGiven}
+use Rattle.runfile.specs.Fields.{fields, fieldAt, offsetOf, orderOf, ordered}
 use Rattle.runfile.specs.Actions.{crashAll, none, actionOf}
-use Rattle.runfile.specs.Refusals.{outOfRange, badFields, sameFields, badAction, badByte, firstOffender, firstRow, firstLaterRow, firstByte, badRow, below, same, found, headChecks, bodyChecks, fileChecks, roomChecks, inOrder, refusalOf}
+use Rattle.runfile.specs.Refusals.{outOfRange, badField, badIn, sameFields, badAction, badByte, badFieldIn, firstBadField, firstRow, firstLaterRow, firstByte, below, same, found, headChecks, bodyChecks, fileChecks, roomChecks, inOrder, refusalOf}
 use Rattle.runfile.specs.Table.{Marked, rowOf, zeroByteOf, byteOf}
 use Rattle.runfile.specs.Order.{Clear, clear-parts, accepts, whole-clear}
+use Rattle.runfile.specs.Searches.{none-found, none-offends}
 
 -- refusals 2 to 8 are not given
 pub record LawfulHead (h : Header) (f : List ℕ) : Type 0 where
@@ -64,7 +68,7 @@ neither : (a b : Bool) → (a || b) ≡ false → (a ≡ false) × (b ≡ false)
 neither true b e = absurd (let z : _≡_ {A = Bool} true false = e in let y : _≡_ {A = ℕ} 0 1 = cc in omega arith)
 neither false b e = (refl, e)
 
-not-both : (a b : Bool) → (a && b) ≡ false → a ≡ true → b ≡ false
+pub not-both : (a b : Bool) → (a && b) ≡ false → a ≡ true → b ≡ false
 not-both true b e q = e
 not-both false b e q = absurd (let y : _≡_ {A = ℕ} 0 1 = cc in omega arith)
 
@@ -106,24 +110,16 @@ lawful-head h f room c =
 pub longest : (h : Header) (f : List ℕ) → LawfulHead h f → length f ≤ longestFile
 longest h f l = let a = l .words in let b = l .rows in let c = l .steps in let e = l .exact in omega arith
 
-pub lawful-row : (h : Header) (row : Row) (zeroByte : ℕ) → badFields h row zeroByte ≡ false → LawfulRow h row zeroByte
-unfolding badFields
-lawful-row h row z e =
-    let reading : Bool = eqb (row .kind) 0 && (not (eqb (row .old) 0) || not (eqb (row .new) 0)) in
-    let a = neither (leb (h .processes) (row .process)) (ltb 1 (row .kind) || (leb (h .words) (row .word) || (not (eqb z 0) || reading))) e in
-    let b = neither (ltb 1 (row .kind)) (leb (h .words) (row .word) || (not (eqb z 0) || reading)) (a .1) in
-    let c = neither (leb (h .words) (row .word)) (not (eqb z 0) || reading) (b .1) in
-    let d = neither (not (eqb z 0)) reading (c .1) in
-    let zeros : (q : row .kind ≡ 0) → (not (eqb (row .old) 0) ≡ false) × (not (eqb (row .new) 0) ≡ false) =
-    λ q. neither (not (eqb (row .old) 0)) (not (eqb (row .new) 0)) (not-both (eqb (row .kind) 0) _ (d .1) (eq-eqb (row .kind) 0 q)) in
-    record {
-      process = leb-false _ _ (a .0);
-      kind = ltb-false _ _ (b .0);
-      word = leb-false _ _ (c .0);
-      zero-byte = eqb-true _ _ (not-false _ (d .0));
-      read-old = λ q. eqb-true _ _ (not-false _ (zeros q .0));
-      read-new = λ q. eqb-true _ _ (not-false _ (zeros q .1));
-    }
+pub lawful-row : (h : Header) (row : Row) (zeroByte : ℕ) → ((x : Field) → badField h row zeroByte x ≡ false) → LawfulRow h row zeroByte
+unfolding badField
+lawful-row h row z clear = record {
+  process = leb-false _ _ (clear field.Process);
+  kind = ltb-false _ _ (clear field.Kind);
+  word = leb-false _ _ (clear field.Word);
+  zero-byte = eqb-true _ _ (not-false _ (clear field.ZeroByte));
+  read-old = λ q. eqb-true _ _ (not-false _ (not-both (eqb (row .kind) 0) (not (eqb (row .old) 0)) (clear field.Old) (eq-eqb (row .kind) 0 q)));
+  read-new = λ q. eqb-true _ _ (not-false _ (not-both (eqb (row .kind) 0) (not (eqb (row .new) 0)) (clear field.New) (eq-eqb (row .kind) 0 q)));
+}
 
 -- from 3 on only 15 is an action
 pub high-action : (high : ℕ) → 3 ≤ high → actionOf high ≡ cond (eqb high 15) crashAll none
@@ -143,20 +139,14 @@ lawful-byte processes byte e = go (byte / 16) refl e
     go (suc (suc zero)) q e = of-one (omega arith) (leb-false processes (byte % 16) e)
     go (suc (suc (suc n))) q e = all (eqb (byte / 16) 15) refl (rw (← q, high-action (byte / 16) (omega arith)) at e)
 
--- a search that found nothing passed nothing that offends
-none-offends : (place : ℕ → ℕ) (offends : ℕ → Bool) (k n : ℕ) → firstOffender place offends k n ≡ Nowhere → (j : ℕ) → k ≤ j → j < k + n → offends j ≡ false
-none-offends place offends k zero e j a b = absurd (omega arith)
-none-offends place offends k (suc n) e j a b = go (offends k) refl e (none-offends place offends (suc k) n) (ltb k j) refl
-  where
-    go : (t : Bool) → offends k ≡ t → cond t (At (place k)) (firstOffender place offends (suc k) n) ≡ Nowhere
-        → (firstOffender place offends (suc k) n ≡ Nowhere → (j : ℕ) → suc k ≤ j → j < suc k + n → offends j ≡ false)
-        → (later : Bool) → ltb k j ≡ later → offends j ≡ false
-    go true q e more later l = absurd (let y : _≡_ {A = ℕ} 0 1 = cc in omega arith)
-    go false q e more true l = more e j (let h = ltb-true k j l in omega arith) (omega arith)
-    go false q e more false l = let same : j ≡ k = (let h = ltb-false k j l in omega arith) in rw same q
+-- of a row: no field is faulty
+pub no-bad-field : (h : Header) (f : List ℕ) (start k : ℕ) → badFieldIn h f start k ≡ Nowhere → (x : Field) → badIn h f start k x ≡ false
+no-bad-field h f start k e x =
+    let o = ordered x in
+    subst (λ y. badIn h f start k y ≡ false) (o .1) (none-offends (λ i. rowPlace start k + offsetOf (fieldAt i)) (λ i. badIn h f start k (fieldAt i)) 0 (length fields) e (orderOf x) (omega arith) (let b = o .0 in omega arith))
 
 pub lawful : (f : List ℕ) (room : Room) (h : Header) → refusalOf f room ≡ Accepted h → Lawful h f room
-unfolding refusalOf firstRow firstLaterRow firstByte sameFields
+unfolding refusalOf firstBadField firstRow firstLaterRow firstByte sameFields
 lawful f room h e =
     let g : Header = headerIn f in
     let a = accepts (found g f room) g inOrder h e in
@@ -172,7 +162,7 @@ lawful f room h e =
       header = sym (a .0);
       long = ltb-false (length f) headSize (whole-clear (ltb (length f) headSize) (d .0 .0));
       head = head;
-      rows = λ k l. lawful-row h (rowOf h f k) (zeroByteOf h f k) (none-offends (rowPlace start) (badRow h f start) 0 (h .rows) (body .0) k (omega arith) (omega arith));
+      rows = λ k l. lawful-row h (rowOf h f k) (zeroByteOf h f k) (no-bad-field h f start k (none-found (badFieldIn h f start) 0 (h .rows) (body .0) k (omega arith) (omega arith)));
       ordered = λ k l. ltb-false (rowOf h f (suc k) .process) (rowOf h f k .process) (let back : suc k - 1 ≡ k = omega arith in rw back at (none-offends (rowPlace start) (below f start) 1 (h .rows - 1) (body .1 .0) (suc k) (omega arith) (omega arith)));
       differ = λ k l q. eqb-false (rowOf h f k .old) (rowOf h f k .new) (not-both (eqb (rowOf h f k .kind) 1) (eqb (rowOf h f k .old) (rowOf h f k .new)) (none-offends (rowPlace start) (same f start) 0 (h .rows) (body .1 .1 .0) k (omega arith) (omega arith)) (eq-eqb (rowOf h f k .kind) 1 q));
       actions = λ i l. lawful-byte (h .processes) (byteOf h f i) (none-offends (λ j. scheduleStart h + j) (λ j. badByte (h .processes) (byteOf h f j)) 0 (length (scheduleIn h f)) (body .1 .1 .1 .0) i (omega arith) (omega arith));

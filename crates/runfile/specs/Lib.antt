@@ -1,10 +1,12 @@
 pub mod Layout
+pub mod Fields
 pub mod Operations
 pub mod OperationLaws
 pub mod Lines
 pub mod Actions
 pub mod Refusals
 pub mod Table
+pub mod Searches
 pub mod Order
 pub mod Lawful
 pub mod Exactly

@@ -3,7 +3,7 @@
 -- By induction on the list. Assumes nothing.
 use Prim.Native.Nat.{ℕ}
 use mathlib.Core.Path.{_≡_, refl}
-use mathlib.Core.Bool.{Bool, true, false}
+use mathlib.Core.Bool.{Bool, false}
 use mathlib.Core.List.{List, [], _∷_, _++_}
 use native.Mathlib.Omega.{arith}
 use Rattle.runfile.specs.declared.Header.{Header}
@@ -11,6 +11,7 @@ use Rattle.runfile.specs.declared.Refusal.{Refusal}
 use Rattle.runfile.specs.declared.Found.{Found}
 use Rattle.runfile.specs.declared.Found.the-variants.{Nowhere, At}
 use Rattle.runfile.specs.declared.Checked.the-variants.{Accepted, Refused}
+use Rattle.runfile.specs.Searches.{not-found}
 use Rattle.runfile.specs.Refusals.{whole, orElse, firstOf}
 
 pub refused-accepted : {why : Refusal} {at : ℕ} {h : Header} → Refused why at ≡ Accepted h → ⊥
@@ -56,5 +57,4 @@ module _ (finds : Refusal → Found) (h : Header) where
   accepted (w ∷ l) c = rw (c .0) (accepted l (c .1))
 
 pub whole-clear : (t : Bool) → whole t ≡ Nowhere → t ≡ false
-whole-clear true e = absurd (let z : _≡_ {A = ℕ} 0 1 = cc in omega arith)
-whole-clear false e = refl
+whole-clear t e = not-found t 0 e

@@ -2,12 +2,14 @@
 -- Table.antt says the same in propositions, and Exactly.antt proves that the two agree.
 -- Assumes nothing.
 use Prim.Native.Nat.{ℕ, zero, suc, _+_, _*_, _-_}
-use mathlib.Core.Bool.{Bool, true, false, cond, not, _&&_, _||_}
+use mathlib.Core.Bool.{Bool, true, false, not, _&&_, _||_}
 use mathlib.Core.List.{List, [], _∷_, _++_}
 use lib.Dec.{leb, ltb, eqb}
 use lib.ListN.{getD, length}
 use Rattle.runfile.specs.declared.Header.{Header}
 use Rattle.runfile.specs.declared.Row.{Row}
+use Rattle.runfile.specs.declared.Field.{Field}
+use Rattle.runfile.specs.declared.Field.the-variants as field
 use Rattle.runfile.specs.declared.Room.{Room}
 use Rattle.runfile.specs.declared.Refusal.{Refusal}
 use Rattle.runfile.specs.declared.Refusal.the-variants as refusal
@@ -16,6 +18,7 @@ use Rattle.runfile.specs.declared.Found.the-variants.{Nowhere, At}
 use Rattle.runfile.specs.declared.Checked.{Checked}
 use Rattle.runfile.specs.declared.Checked.the-variants.{Accepted, Refused}
 use Rattle.runfile.specs.Layout.{headSize, marked, headerIn, rowsStart, rowPlace, rowIn, zeroByteAt, scheduleStart, scheduleIn, lengthGiven}
+use Rattle.runfile.specs.Fields.{fields, fieldAt, offsetOf}
 use Rattle.runfile.specs.Actions.{Action, step, crash, wake, crashAll, none, action, named}
 
 -- the table's first column
@@ -40,15 +43,20 @@ numberOf refusal.AnswersRoom = 15
 abbrev pub outOfRange : ℕ → Bool
 outOfRange n = eqb n 0 || ltb 16 n
 
--- 9: "a row's process, kind or word out of range, its zero byte not 0, or a read whose old or new is not 0"
-unfoldable pub badFields : Header → Row → ℕ → Bool
-badFields h row zeroByte =
-    leb (h .processes) (row .process)
-    || (ltb 1 (row .kind)
-    || (leb (h .words) (row .word) || (not (eqb zeroByte 0) || (eqb (row .kind) 0 && (not (eqb (row .old) 0) || not (eqb (row .new) 0))))))
+-- 9: "a row's process, kind or word out of range, its zero byte not 0, or a read whose old or new is not 0", field by field
+abbrev pub badRead : ℕ → ℕ → Bool
+badRead kind number = eqb kind 0 && not (eqb number 0)
 
-abbrev pub badRow : Header → List ℕ → ℕ → ℕ → Bool
-badRow h f start k = badFields h (rowIn f start k) (zeroByteAt f (rowPlace start k))
+unfoldable pub badField : Header → Row → ℕ → Field → Bool
+badField h row zeroByte field.Process = leb (h .processes) (row .process)
+badField h row zeroByte field.Kind = ltb 1 (row .kind)
+badField h row zeroByte field.Word = leb (h .words) (row .word)
+badField h row zeroByte field.ZeroByte = not (eqb zeroByte 0)
+badField h row zeroByte field.Old = badRead (row .kind) (row .old)
+badField h row zeroByte field.New = badRead (row .kind) (row .new)
+
+abbrev pub badIn : Header → List ℕ → ℕ → ℕ → Field → Bool
+badIn h f start k = badField h (rowIn f start k) (zeroByteAt f (rowPlace start k))
 
 -- 10: "a row's process is below that of the row before"
 abbrev pub below : List ℕ → ℕ → ℕ → Bool
@@ -72,10 +80,29 @@ badAction processes low none = true
 unfoldable pub badByte : ℕ → ℕ → Bool
 badByte processes byte = badAction processes (named byte) (action byte)
 
--- the first offender among the numbers k, k + 1, .. (n of them), and its place
+-- what is found first, going by the numbers k, k + 1, .. (n of them)
+abbrev pub orLater : Found → Found → Found
+orLater (At place) later = At place
+orLater Nowhere later = later
+
+abbrev pub firstFound : (ℕ → Found) → ℕ → ℕ → Found
+firstFound finds k zero = Nowhere
+firstFound finds k (suc n) = orLater (finds k) (firstFound finds (suc k) n)
+
+-- the first offender among these numbers, and its place
+abbrev pub foundIf : Bool → ℕ → Found
+foundIf true place = At place
+foundIf false place = Nowhere
+
 abbrev pub firstOffender : (ℕ → ℕ) → (ℕ → Bool) → ℕ → ℕ → Found
-firstOffender place offends k zero = Nowhere
-firstOffender place offends k (suc n) = cond (offends k) (At (place k)) (firstOffender place offends (suc k) n)
+firstOffender place offends = firstFound (λ k. foundIf (offends k) (place k))
+
+-- "The first faulty field of the first faulty row ends the search; fields go in file order": in row k, and over the n rows from `start` on
+abbrev pub badFieldIn : Header → List ℕ → ℕ → ℕ → Found
+badFieldIn h f start k = firstOffender (λ i. rowPlace start k + offsetOf (fieldAt i)) (λ i. badIn h f start k (fieldAt i)) 0 (length fields)
+
+unfoldable pub firstBadField : Header → List ℕ → ℕ → ℕ → Found
+firstBadField h f start n = firstFound (badFieldIn h f start) 0 n
 
 -- over the n rows from `start` on, the row's first byte; over those that have a row before; over the schedule, that byte; of the file as a whole, 0
 unfoldable pub firstRow : ℕ → ℕ → (ℕ → Bool) → Found
@@ -88,8 +115,7 @@ unfoldable pub firstByte : ℕ → ℕ → List ℕ → Found
 firstByte start processes bytes = firstOffender (λ i. start + i) (λ i. badByte processes (getD bytes i 0)) 0 (length bytes)
 
 abbrev pub whole : Bool → Found
-whole true = At 0
-whole false = Nowhere
+whole t = foundIf t 0
 
 -- the table: what each check finds, over the whole file
 abbrev pub found : Header → List ℕ → Room → Refusal → Found
@@ -101,7 +127,7 @@ found h f room refusal.Words = whole (outOfRange (h .words))
 found h f room refusal.Rows = whole (ltb 512 (h .rows))
 found h f room refusal.Steps = whole (ltb 1024 (h .steps))
 found h f room refusal.Length = whole (not (eqb (length f) (lengthGiven h)))
-found h f room refusal.Row = firstRow (rowsStart h) (h .rows) (badRow h f (rowsStart h))
+found h f room refusal.Row = firstBadField h f (rowsStart h) (h .rows)
 found h f room refusal.Order = firstLaterRow (rowsStart h) (h .rows) (below f (rowsStart h))
 found h f room refusal.Same = firstRow (rowsStart h) (h .rows) (same f (rowsStart h))
 found h f room refusal.Action = firstByte (scheduleStart h) (h .processes) (scheduleIn h f)

@@ -8,24 +8,30 @@ use mathlib.Core.List.{List}
 use lib.ListN.{getD, length}
 use Rattle.runfile.specs.declared.Header.{Header}
 use Rattle.runfile.specs.declared.Row.{Row}
+use Rattle.runfile.specs.declared.Field.{Field}
+use Rattle.runfile.specs.declared.Field.the-variants as field
 use Rattle.runfile.specs.declared.Room.{Room}
 use Rattle.runfile.specs.declared.Refusal.{Refusal}
 use Rattle.runfile.specs.declared.Refusal.the-variants as refusal
 use Rattle.runfile.specs.Layout.{byteAt, rowsStart, rowPlace, rowIn, zeroByteAt, scheduleStart, scheduleIn, lengthGiven}
+use Rattle.runfile.specs.Fields.{offsetOf}
 use Rattle.runfile.specs.Refusals.{numberOf}
 
 -- 2: the mark is `SWR`
 abbrev pub Marked : List ℕ → Type 0
 Marked f = (byteAt f 0 ≡ 83) × (byteAt f 1 ≡ 87) × (byteAt f 2 ≡ 82)
 
--- 9: "a row's process, kind or word out of range, its zero byte not 0, or a read whose old or new is not 0"
-pub data BadRow (h : Header) (row : Row) (zeroByte : ℕ) : Type 0 where
-  process : h .processes ≤ row .process → BadRow h row zeroByte
-  kind : 1 < row .kind → BadRow h row zeroByte
-  word : h .words ≤ row .word → BadRow h row zeroByte
-  zero-byte : (zeroByte ≡ 0 → ⊥) → BadRow h row zeroByte
-  read-old : row .kind ≡ 0 → (row .old ≡ 0 → ⊥) → BadRow h row zeroByte
-  read-new : row .kind ≡ 0 → (row .new ≡ 0 → ⊥) → BadRow h row zeroByte
+-- 9: "a row's process, kind or word out of range, its zero byte not 0, or a read whose old or new is not 0", field by field
+abbrev pub BadRead : ℕ → ℕ → Type 0
+BadRead kind number = (kind ≡ 0) × (number ≡ 0 → ⊥)
+
+abbrev pub BadField : Header → Row → ℕ → Field → Type 0
+BadField h row zeroByte field.Process = h .processes ≤ row .process
+BadField h row zeroByte field.Kind = 1 < row .kind
+BadField h row zeroByte field.Word = h .words ≤ row .word
+BadField h row zeroByte field.ZeroByte = zeroByte ≡ 0 → ⊥
+BadField h row zeroByte field.Old = BadRead (row .kind) (row .old)
+BadField h row zeroByte field.New = BadRead (row .kind) (row .new)
 
 -- 12: "A byte is refused if its action is none, if its process is P or more for 0, 1 and 2, or if its low bits are not 0 for 15."
 pub data BadByte (processes byte : ℕ) : Type 0 where
@@ -62,6 +68,19 @@ zeroByteOf h f k = zeroByteAt f (rowPlace (rowsStart h) k)
 abbrev pub byteOf : Header → List ℕ → ℕ → ℕ
 byteOf h f i = getD (scheduleIn h f) i 0
 
+-- 9, and its place: "The first faulty field of the first faulty row ends the search; fields go in file order", that field's first byte
+abbrev pub BadIn : Header → List ℕ → ℕ → Field → Type 0
+BadIn h f k x = BadField h (rowOf h f k) (zeroByteOf h f k) x
+
+pub record FirstBadField (h : Header) (f : List ℕ) (at : ℕ) : Type 0 where
+  pub row : ℕ
+  pub within : row < h .rows
+  pub field : Field
+  pub bad : BadIn h f row field
+  pub no-row-before : (j : ℕ) → j < row → (x : Field) → BadIn h f j x → ⊥
+  pub no-field-before : (x : Field) → offsetOf x < offsetOf field → BadIn h f row x → ⊥
+  pub here : at ≡ rowPlace (rowsStart h) row + offsetOf field
+
 abbrev pub Given : Header → List ℕ → Room → Refusal → ℕ → Type 0
 Given h f room refusal.Short at = (length f < 11) × (at ≡ 0)
 Given h f room refusal.Mark at = (Marked f → ⊥) × (at ≡ 0)
@@ -71,7 +90,7 @@ Given h f room refusal.Words at = ((h .words ≡ 0) ⊎ (16 < h .words)) × (at 
 Given h f room refusal.Rows at = (512 < h .rows) × (at ≡ 0)
 Given h f room refusal.Steps at = (1024 < h .steps) × (at ≡ 0)
 Given h f room refusal.Length at = (length f ≡ lengthGiven h → ⊥) × (at ≡ 0)
-Given h f room refusal.Row at = FirstRow h (λ k. BadRow h (rowOf h f k) (zeroByteOf h f k)) at
+Given h f room refusal.Row at = FirstBadField h f at
 Given h f room refusal.Order at = FirstLaterRow h (λ k. rowOf h f k .process < rowOf h f (k - 1) .process) at
 Given h f room refusal.Same at = FirstRow h (λ k. (rowOf h f k .kind ≡ 1) × (rowOf h f k .old ≡ rowOf h f k .new)) at
 Given h f room refusal.Action at = FirstByte h f (λ i. BadByte (h .processes) (byteOf h f i)) at

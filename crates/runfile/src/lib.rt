@@ -9,7 +9,7 @@ mod read;
 pub use lines::counts_of;
 pub use lines::firsts_of;
 use offends::first_bad_byte;
-use offends::first_bad_row;
+use offends::first_bad_field;
 use offends::first_below;
 use offends::first_same;
 use read::has_mark;
@@ -45,6 +45,16 @@ pub struct Row {
     pub word: u8,
     pub old: u16,
     pub new: u16,
+}
+
+// The fields of a row as they stand in the file, in their order there.
+pub enum Field {
+    Process,
+    Kind,
+    Word,
+    ZeroByte,
+    Old,
+    New,
 }
 
 // How many numbers each of the three lent buffers holds.
@@ -165,7 +175,7 @@ fn check_body(file: &[u8], header: Header) -> Checked
 {
     let rows_at = rows_start(header);
     let rows = index16(header.rows);
-    if let Found::At(place) = first_bad_row(file, rows_at, rows, header) {
+    if let Found::At(place) = first_bad_field(file, rows_at, rows, header) {
         return Checked::Refused(Refusal::Row, place);
     }
     if let Found::At(place) = first_below(file, rows_at, rows) {

@@ -1,37 +1,63 @@
-// Who offends: the test of one row or byte, and the search for the first that fails it (refusals 9 to 12).
+// Who offends: the test of one field, row or byte, and the search for the first that fails it (refusals 9 to 12).
+use super::Field;
 use super::Found;
 use super::Header;
 use super::read::u16_at;
 ghost use mathlib.Core.Path.{_≡_};
-ghost use Prim.Native.Nat.{_+_, _≤_};
+ghost use Prim.Native.Nat.{_+_, _≤_, _<_};
 ghost use lib.ListN.{length};
-ghost use Rattle.runfile.specs.Layout.{rowAt, rowPlace, zeroByteAt, longestFile};
-ghost use Rattle.runfile.specs.Refusals.{badFields, sameFields, badByte, badRow, below, same, firstRow, firstLaterRow, firstByte};
+ghost use Rattle.runfile.specs.Layout.{byteAt, u16At, rowAt, rowPlace, zeroByteAt, longestFile};
+ghost use Rattle.runfile.specs.Fields.{offsetOf};
+ghost use Rattle.runfile.specs.Refusals.{badRead, badField, sameFields, badByte, below, same, firstBadField, firstRow, firstLaterRow, firstByte};
 
-// Refusal 9, of the row at a place.
-fn is_bad_row(file: &[u8], at: usize, header: Header) -> bool
-    requires { ⌜ at + 8 ≤ length (now file) ⌝ }
-    ensures { λ r. ⌜ r ≡ badFields header (rowAt (now (file .entry)) at) (zeroByteAt (now (file .entry)) at) ⌝ }
+// The order in which a row's fields are looked at: that of the file.
+const FIELDS: [Field; 6] = [
+    Field::Process,
+    Field::Kind,
+    Field::Word,
+    Field::ZeroByte,
+    Field::Old,
+    Field::New,
+];
+
+// Where a field's first byte stands in its row.
+fn offset_of(field: Field) -> usize
+    ensures { λ r. ⌜ (r ≡ offsetOf field) × (r < 8) ⌝ }
 {
-    if file[at] >= header.processes {
-        return true;
+    match field {
+        Field::Process => 0,
+        Field::Kind => 1,
+        Field::Word => 2,
+        Field::ZeroByte => 3,
+        Field::Old => 4,
+        Field::New => 6,
     }
-    if file[at + 1] > 1 {
-        return true;
-    }
-    if file[at + 2] >= header.words {
-        return true;
-    }
-    if file[at + 3] != 0 {
-        return true;
-    }
+}
+
+// "a read whose old or new is not 0": for one of the two, which stands at `place`, of the row at `at`.
+fn is_bad_read(file: &[u8], at: usize, place: usize) -> bool
+    requires { ⌜ (at + 2 ≤ length (now file)) × (place + 2 ≤ length (now file)) ⌝ }
+    ensures { λ r. ⌜ r ≡ badRead (byteAt (now (file .entry)) (at + 1)) (u16At (now (file .entry)) place) ⌝ }
+{
     if file[at + 1] != 0 {
         return false;
     }
-    if u16_at(file, at + 4) != 0 {
-        return true;
+    u16_at(file, place) != 0
+}
+
+// Refusal 9, of one field of the row at a place.
+fn is_bad_field(file: &[u8], at: usize, field: Field, header: Header) -> bool
+    requires { ⌜ at + 8 ≤ length (now file) ⌝ }
+    ensures { λ r. ⌜ r ≡ badField header (rowAt (now (file .entry)) at) (zeroByteAt (now (file .entry)) at) field ⌝ }
+{
+    match field {
+        Field::Process => file[at] >= header.processes,
+        Field::Kind => file[at + 1] > 1,
+        Field::Word => file[at + 2] >= header.words,
+        Field::ZeroByte => file[at + 3] != 0,
+        Field::Old => is_bad_read(file, at, at + 4),
+        Field::New => is_bad_read(file, at, at + 6),
     }
-    u16_at(file, at + 6) != 0
 }
 
 // Refusal 11, of the row at a place.
@@ -56,20 +82,27 @@ fn is_bad_byte(byte: u8, processes: u8) -> bool
     }
 }
 
-// Refusal 9: the first of the rows that begin at `start` with a field out of range.
-pub fn first_bad_row(file: &[u8], start: usize, rows: usize, header: Header) -> Found
+// Refusal 9: of the rows that begin at `start`, the first faulty field of the first faulty row ends the search.
+pub fn first_bad_field(file: &[u8], start: usize, rows: usize, header: Header) -> Found
     requires { ⌜ rowPlace start rows ≤ length (now file) ⌝ }
-    ensures { λ r. ⌜ r ≡ firstRow start rows (badRow header (now (file .entry)) start) ⌝ }
+    ensures { λ r. ⌜ r ≡ firstBadField header (now (file .entry)) start rows ⌝ }
 {
+    let mut found = Found::Nowhere;
     let mut k = 0;
-    while k < rows {
+    'rows: while k < rows {
         let at = start + k * 8;
-        if is_bad_row(file, at, header) {
-            return Found::At(at);
+        let mut i = 0;
+        'fields: while i < 6 {
+            let field = FIELDS[i];
+            if is_bad_field(file, at, field, header) {
+                found = Found::At(at + offset_of(field));
+                break 'rows;
+            }
+            i += 1;
         }
         k += 1;
     }
-    Found::Nowhere
+    found
 }
 
 // Refusal 10: the first row whose process is below that of the row before, so from the second row on.

@@ -22,8 +22,8 @@ abbrev finds : tie.Start → Refusal → Found
 finds s = found (s .args .header) (now (s .args .file)) noRoom
 
 -- each search finds what its line of the table finds; a search that found nothing has cleared its line
-row-found : (c : tie.After-first-bad-row) → finds (c .before .before .before .before) refusal.Row ≡ c .first-bad-row .result
-row-found c = let m = c .before in sym (rw (m .before .rows-start .ensures .0, m .index16 .ensures .0) at (c .first-bad-row .ensures))
+row-found : (c : tie.After-first-bad-field) → finds (c .before .before .before .before) refusal.Row ≡ c .first-bad-field .result
+row-found c = let m = c .before in sym (rw (m .before .rows-start .ensures .0, m .index16 .ensures .0) at (c .first-bad-field .ensures))
 
 row-clear : (c : tie.After-enum-told) → finds (c .before .before .before .before .before .before) refusal.Row ≡ Nowhere
 row-clear c = row-found (c .before .before) ∙ c .enum-told .given .1
@@ -55,8 +55,8 @@ rows-start-requires c κs = search needs
 index16-requires : tie.Need-index16-requires
 index16-requires c κs = search needs
 
-first-bad-row-requires : tie.Need-first-bad-row-requires
-first-bad-row-requires c κs = search needs
+first-bad-field-requires : tie.Need-first-bad-field-requires
+first-bad-field-requires c κs = search needs
 
 enum-known-place : tie.Need-enum-known-place
 enum-known-place c = search needs
@@ -133,7 +133,7 @@ check-body-spec =
     (tie.spec
     rows-start-requires
     index16-requires
-    first-bad-row-requires
+    first-bad-field-requires
     enum-known-place
     returns
     enum-told
