@@ -174,6 +174,43 @@ fn bytes_in_bench(name: &str) -> String {
     bytes.collect::<Vec<&str>>().join(" ")
 }
 
+/// A valid file of two processes, two words, four rows and nine steps; the
+/// rows begin at 19, 27, 35 and 43.
+const FOUR_ROWS: [u8; 60] = [
+    0x53, 0x57, 0x52, 1, 0, 2, 2, 4, 0, 9, 0, // header
+    7, 0, 0, 0, 9, 0, 0, 0, // words
+    0, 1, 0, 0, 7, 0, 8, 0, // p0, word 0, 7>8
+    0, 0, 1, 0, 0, 0, 0, 0, // p0 reads word 1
+    1, 1, 1, 0, 9, 0, 7, 0, // p1, word 1, 9>7
+    1, 0, 0, 0, 0, 0, 0, 0, // p1 reads word 0
+    0, 0, 0, 0, 0, 0, 0, 0, 0, // schedule
+];
+
+/// The six files `field-1` to `field-6` of the folder `bench`: which byte is
+/// the slip, what it is, and the place of its field.
+const SLIPS: [(usize, u8, usize); 6] = [
+    (35, 2, 35),
+    (36, 2, 36),
+    (37, 2, 37),
+    (38, 1, 38),
+    (31, 9, 31),
+    (50, 1, 49),
+];
+
+/// "9 now gives the place of that field's first byte" (change request 2).
+#[test]
+fn one_slip_in_each_field_of_a_row() {
+    assert!(printed(&FOUR_ROWS).starts_with("run 2 2 4 9\n"));
+    for (number, (at, byte, place)) in (1..).zip(SLIPS) {
+        let mut file = FOUR_ROWS;
+        file[at] = byte;
+        let refused = format!("refused 9 {place}\n");
+        assert_eq!(printed(&file), refused, "field-{number}");
+        assert_eq!(bytes_in_bench(&format!("field-{number}.hex")), hex(&file));
+        assert_eq!(in_bench(&format!("field-{number}.out")), refused);
+    }
+}
+
 #[test]
 fn the_cases_in_the_folder_bench_are_these() {
     for case in &CASES {

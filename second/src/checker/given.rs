@@ -61,7 +61,7 @@ impl Given {
 }
 
 /// The little-endian number of so many bytes at that offset.
-fn number(file: &[u8], at: usize, bytes: usize) -> Option<u64> {
+pub fn number(file: &[u8], at: usize, bytes: usize) -> Option<u64> {
     let part = file.get(at..at.checked_add(bytes)?)?;
     Some(
         part.iter()

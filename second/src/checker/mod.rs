@@ -4,9 +4,11 @@
 //! This module shares no code with the machine: it reads the run file and the
 //! outcome lines in its own way and knows nothing of stages, only that an
 //! operation begins with its third store. What it demands is what can be seen
-//! from outside: the file, the log, the answers and the final words.
+//! from outside: the file, the log, the answers and the final words. Of the
+//! refusals it judges the place of 9, so that it can count them by field.
 
 mod demands;
+mod fields;
 mod given;
 mod outcome;
 mod positions;
@@ -85,6 +87,9 @@ fn check_record(record: &Record, text: &[u8], tally: &mut Tally) -> Result<(), V
         Told::Refused { number, place } => {
             if place > record.file.len() {
                 return Err(format!("the place {place} is not in the file"));
+            }
+            if number == 9 {
+                tally.refused_field(fields::field_at(&record.file, place)?);
             }
             tally.refused(number)
         }

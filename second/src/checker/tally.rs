@@ -2,6 +2,7 @@
 //! a kind is not taken for evidence about it.
 
 use super::demands::FAIL;
+use super::fields::FIELDS;
 use super::given::Given;
 use super::outcome::{Five, Ran};
 use super::positions::lost_swaps;
@@ -13,6 +14,8 @@ pub struct Tally {
     run: u64,
     /// By refusal number; number 0 is not used.
     refused: [u64; 16],
+    /// Refusal 9, by field of the row.
+    refused_fields: [u64; FIELDS.len()],
     /// By verdict.
     log: [u64; 4],
     answers: [u64; 4],
@@ -50,6 +53,10 @@ impl Tally {
         }
     }
 
+    pub fn refused_field(&mut self, field: usize) {
+        self.refused_fields[field] += 1;
+    }
+
     pub fn ran(&mut self, given: &Given, ran: &Ran, spans: &Spans) {
         self.run += 1;
         count_verdicts(&mut self.log, &ran.log);
@@ -82,9 +89,17 @@ impl Tally {
             count,
             wanted: false,
         };
-        let refused = self.refused.iter().enumerate().skip(1);
         let mut kinds = vec![counted("files run", self.run)];
-        kinds.extend(refused.map(|(number, count)| wanted(format!("refused {number}"), *count)));
+        for (number, count) in self.refused.iter().enumerate().skip(1) {
+            if number == 9 {
+                let fields = FIELDS.iter().zip(self.refused_fields);
+                kinds.extend(
+                    fields.map(|((name, ..), count)| wanted(format!("refused 9 {name}"), count)),
+                );
+            } else {
+                kinds.push(wanted(format!("refused {number}"), *count));
+            }
+        }
         let log =
             [0, 1, 3].map(|verdict| wanted(format!("log verdict {verdict}"), self.log[verdict]));
         kinds.extend(log);

@@ -263,14 +263,72 @@ fn a_refusal_has_a_number_of_the_table_and_a_place_in_the_file() {
     objection(F, "refused 9 48\n");
 }
 
+/// The rows of case f begin at 15 and 23; the second is made faulty.
+#[test]
+fn refusal_9_has_the_place_of_the_first_faulty_field() {
+    let with = |changes: &[(usize, u8)]| {
+        let mut file = F.to_vec();
+        for (at, byte) in changes {
+            file[*at] = *byte;
+        }
+        file
+    };
+    let places: [(&[(usize, u8)], usize); 10] = [
+        (&[(23, 2)], 23),
+        (&[(24, 2)], 24),
+        (&[(25, 1)], 25),
+        (&[(26, 1)], 26),
+        (&[(24, 0)], 27),
+        (&[(24, 0), (27, 0), (28, 1)], 27),
+        (&[(24, 0), (27, 0)], 29),
+        (&[(24, 0), (27, 0), (29, 0), (30, 1)], 29),
+        (&[(24, 2), (25, 1), (26, 1)], 24),
+        (&[(16, 0), (19, 0), (23, 2)], 21),
+    ];
+    for (changes, truth) in places {
+        let file = with(changes);
+        for place in 0..F.len() {
+            let told = check_with_sum(&file, &format!("refused 9 {place}\n"));
+            assert_eq!(told.is_ok(), place == truth);
+        }
+    }
+    let text = objection(F, "refused 9 15\n");
+    assert_eq!(text, "no field of a row is faulty");
+}
+
+#[test]
+fn refusal_9_is_counted_by_field() {
+    let mut tally = Tally::default();
+    let mut file = F.to_vec();
+    file[26] = 1;
+    let record = Record {
+        file,
+        lengths: Lengths {
+            words: 0,
+            log: 0,
+            answers: 0,
+        },
+    };
+    assert_eq!(
+        check_record(&record, b"refused 9 26\nsum 1\n", &mut tally),
+        Ok(())
+    );
+    for kind in tally.kinds() {
+        assert_eq!(kind.count, u64::from(kind.name == "refused 9 zero byte"));
+    }
+}
+
 #[test]
 fn kinds_never_met_fail_the_check() {
     let mut out = Vec::new();
     let ending = check(&mut [].as_slice(), &mut [].as_slice(), &mut out).unwrap();
     assert!(ending == Ending::Objection);
     let text = String::from_utf8(out).unwrap();
-    for number in 1..=15 {
+    for number in (1..=15).filter(|number| *number != 9) {
         assert!(text.contains(&format!("never met: refused {number}\n")));
+    }
+    for field in ["process", "kind", "word", "zero byte", "old", "new"] {
+        assert!(text.contains(&format!("never met: refused 9 {field}\n")));
     }
     assert_eq!(text.matches("never met: log verdict").count(), 3);
     assert_eq!(text.matches("never met: answer verdict").count(), 4);

@@ -120,26 +120,39 @@ fn wrong_length(draft: &mut Draft, random: &mut Random) {
     }
 }
 
-/// Refusal 9 in any of its forms, at any row; the smallest number that is
-/// out of range as often as all the others.
+/// Refusal 9 in any of the six fields, at any row, and now and then in
+/// another field of the same row, before or behind it.
 fn wrong_field(draft: &mut Draft, random: &mut Random) {
     let (processes, words) = (draft.processes, draft.word_count);
     let Some(row) = any_row(draft, random) else {
         return;
     };
-    match random.below(6) {
-        0 => row.process = at_least(processes, random),
-        1 => row.kind = at_least(2, random),
-        2 => row.word = at_least(words, random),
-        3 => row.zero = at_least(1, random),
-        4 => (row.kind, row.old, row.new) = (0, random.u16() | 1, 0),
-        _ => (row.kind, row.old, row.new) = (0, 0, random.u16() | 0x0100),
+    loop {
+        // A fault hides those behind it, so the later fields come more often.
+        match random.weighted([(2, 0), (3, 1), (3, 2), (4, 3), (6, 4), (6, 5)]) {
+            0 => row.process = at_least(processes, random),
+            1 => row.kind = at_least(2, random),
+            2 => row.word = at_least(words, random),
+            3 => row.zero = at_least(1, random),
+            4 => (row.kind, row.old) = (0, not_zero(random)),
+            _ => (row.kind, row.old, row.new) = (0, 0, not_zero(random)),
+        }
+        if random.percent(75) {
+            break;
+        }
     }
 }
 
+/// The least number as often as all the others.
 fn at_least(least: u8, random: &mut Random) -> u8 {
     let any = random.byte_between(least, 255);
     random.one_of([least, any])
+}
+
+/// Also with one byte 0, the low one or the high one.
+fn not_zero(random: &mut Random) -> u16 {
+    let any = random.u16();
+    random.one_of([1, 0x0100, 0xFF00, any | 1])
 }
 
 /// A row whose process is below that of the row before.

@@ -20,7 +20,8 @@ pub enum Cause {
     /// "file length is not what the header gives"
     FileLength = 8,
     /// "a row's process, kind or word out of range, its zero byte not 0, or
-    /// a read whose old or new is not 0"
+    /// a read whose old or new is not 0"; by change request 2 its place is
+    /// that of the field
     RowField = 9,
     /// "a row's process is below that of the row before"
     RowOrder = 10,

@@ -82,20 +82,79 @@ fn refusal_8_for_every_other_length() {
     assert_eq!(refused(&longer), Some((8, 0)));
 }
 
+/// Each field faulty by itself; the place is the field's first byte.
 #[test]
 fn refusal_9_for_every_field_of_a_row() {
-    let faults: [&[(usize, u8)]; 8] = [
-        &[(35, 2)],
-        &[(36, 2)],
-        &[(36, 255)],
-        &[(37, 2)],
-        &[(38, 1)],
-        &[(36, 0), (39, 0)],
-        &[(36, 0), (41, 0)],
-        &[(36, 0), (39, 0), (40, 1), (41, 0)],
+    let faults: [(&[(usize, u8)], usize); 19] = [
+        (&[(35, 2)], 35),
+        (&[(35, 255)], 35),
+        (&[(19, 2)], 19),
+        (&[(36, 2)], 36),
+        (&[(36, 255)], 36),
+        (&[(37, 2)], 37),
+        (&[(37, 255)], 37),
+        (&[(38, 1)], 38),
+        (&[(38, 255)], 38),
+        // A read, of which old or new has its low byte, its high byte or both.
+        (&[(31, 1)], 31),
+        (&[(32, 1)], 31),
+        (&[(31, 255), (32, 255)], 31),
+        (&[(33, 1)], 33),
+        (&[(34, 1)], 33),
+        (&[(33, 255), (34, 255)], 33),
+        // A compare row made a read: its old and new are faulty from then on.
+        (&[(36, 0)], 39),
+        (&[(36, 0), (41, 0)], 39),
+        (&[(36, 0), (39, 0)], 41),
+        (&[(20, 0)], 23),
     ];
-    for fault in faults {
-        assert_eq!(refused(&with(fault)), Some((9, 35)));
+    for (fault, place) in faults {
+        assert_eq!(refused(&with(fault)), Some((9, place)));
+    }
+}
+
+/// The bytes of a read of word 1 by process 0 with these fields faulty, by
+/// number in file order.
+fn faulty_row(fields: &[usize]) -> [u8; 8] {
+    let mut row = [0, 0, 1, 0, 0, 0, 0, 0];
+    for field in fields {
+        let (at, byte) = FAULTS[*field];
+        row[at] = byte;
+    }
+    row
+}
+
+/// A fault for each field of a row, by offset.
+const FAULTS: [(usize, u8); 6] = [(0, 2), (1, 2), (2, 2), (3, 1), (4, 9), (6, 9)];
+
+#[test]
+fn the_first_faulty_field_of_a_row_is_told() {
+    let mut file = FILE.to_vec();
+    for (first, (offset, _)) in FAULTS.iter().enumerate() {
+        let place = 27 + offset;
+        for second in first..6 {
+            file[27..35].copy_from_slice(&faulty_row(&[first, second]));
+            assert_eq!(refused(&file), Some((9, place)));
+        }
+        let all_from_there: Vec<usize> = (first..6).collect();
+        file[27..35].copy_from_slice(&faulty_row(&all_from_there));
+        assert_eq!(refused(&file), Some((9, place)));
+    }
+}
+
+/// Also if the later row is faulty in an earlier field.
+#[test]
+fn the_first_faulty_row_is_told() {
+    let mut file = FILE.to_vec();
+    for (begins, later) in [(19, 27), (27, 35), (19, 35)] {
+        for (field, (offset, _)) in FAULTS.iter().enumerate() {
+            for other in 0..6 {
+                file.copy_from_slice(&FILE);
+                file[begins..begins + 8].copy_from_slice(&faulty_row(&[field]));
+                file[later..later + 8].copy_from_slice(&faulty_row(&[other]));
+                assert_eq!(refused(&file), Some((9, begins + offset)));
+            }
+        }
     }
 }
 
@@ -128,7 +187,9 @@ fn checks_go_in_the_order_of_the_table() {
     expect(&[(43, 0xF1)], 12, 43);
     expect(&[(23, 8)], 11, 19);
     expect(&[(27, 1), (35, 0)], 10, 35);
-    expect(&[(38, 1)], 9, 35);
+    expect(&[(41, 0), (36, 0)], 9, 39);
+    expect(&[(38, 1)], 9, 38);
+    expect(&[(34, 1)], 9, 33);
     expect(&[(9, 5)], 8, 0);
     expect(&[(10, 5)], 7, 0);
     expect(&[(8, 3)], 6, 0);

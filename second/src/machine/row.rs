@@ -14,23 +14,53 @@ pub struct Row {
     pub operation: Operation,
 }
 
+/// "A row: process, kind, word, a zero byte, then old and new (2 bytes
+/// each)." Each field with the offset of its first byte in the row.
+#[derive(Clone, Copy, Debug, PartialEq, Eq)]
+pub enum Field {
+    Process = 0,
+    Kind = 1,
+    Word = 2,
+    Zero = 3,
+    Old = 4,
+    New = 6,
+}
+
+impl Field {
+    pub fn offset(self) -> usize {
+        self as usize
+    }
+}
+
 impl Row {
     pub const BYTES: usize = 8;
 
-    /// "A row: process, kind, word, a zero byte, then old and new (2 bytes
-    /// each)." `None` when refusal 9 is due: "a row's process, kind or word
-    /// out of range, its zero byte not 0, or a read whose old or new is not 0".
-    pub fn decode(bytes: [u8; Row::BYTES], processes: usize, words: usize) -> Option<Row> {
+    /// The row, or its first faulty field when refusal 9 is due: "a row's
+    /// process, kind or word out of range, its zero byte not 0, or a read
+    /// whose old or new is not 0". "fields go in file order" (change request 2).
+    pub fn decode(bytes: [u8; Row::BYTES], processes: usize, words: usize) -> Result<Row, Field> {
         let [process, kind, word, zero, old_low, old_high, new_low, new_high] = bytes;
+        let process = usize::from(process);
+        let word = usize::from(word);
         let old = u16::from_le_bytes([old_low, old_high]);
         let new = u16::from_le_bytes([new_low, new_high]);
-        let row = Row {
-            process: usize::from(process),
-            word: usize::from(word),
-            operation: Operation::decode(kind, old, new)?,
-        };
-        let in_range = row.process < processes && row.word < words && zero == 0;
-        in_range.then_some(row)
+        let reads = kind == 0;
+
+        sound_if(process < processes, Field::Process)?;
+        sound_if(kind <= 1, Field::Kind)?;
+        sound_if(word < words, Field::Word)?;
+        sound_if(zero == 0, Field::Zero)?;
+        sound_if(!reads || old == 0, Field::Old)?;
+        sound_if(!reads || new == 0, Field::New)?;
+        Ok(Row {
+            process,
+            word,
+            operation: if reads {
+                Operation::Read
+            } else {
+                Operation::CompareAndSwap { old, new }
+            },
+        })
     }
 
     /// Refusal 11: "a compare row with old equal to new".
@@ -39,13 +69,10 @@ impl Row {
     }
 }
 
-impl Operation {
-    /// "Kind 0 reads, and its old and new are 0; kind 1 compares and swaps."
-    fn decode(kind: u8, old: u16, new: u16) -> Option<Operation> {
-        match (kind, old, new) {
-            (0, 0, 0) => Some(Operation::Read),
-            (1, _, _) => Some(Operation::CompareAndSwap { old, new }),
-            _ => None,
-        }
+fn sound_if(sound: bool, field: Field) -> Result<(), Field> {
+    if sound {
+        Ok(())
+    } else {
+        Err(field)
     }
 }

@@ -8,7 +8,7 @@ use crate::pieces::pieces;
 
 use super::action::Action;
 use super::refusal::{refuse_at, refuse_if, Cause, Refusal};
-use super::row::Row;
+use super::row::{Field, Row};
 use super::word::Word;
 
 /// "Three bytes `SWR`; a 16-bit version, 1; process count P (1 byte); word
@@ -108,23 +108,30 @@ impl Header {
         })
     }
 
-    /// Refusals 9, 10 and 11, each with the "row's first byte" as its place.
+    /// Refusal 9 at the first byte of "the first faulty field of the first
+    /// faulty row" (change request 2); 10 and 11 at the "row's first byte".
     fn read_rows(&self, bytes: &[u8]) -> Result<Vec<Row>, Refusal> {
-        let decoded: Vec<Option<Row>> = pieces(bytes)
+        let decoded: Vec<Result<Row, Field>> = pieces(bytes)
             .map(|row| Row::decode(row, self.processes, self.words))
             .collect();
-        let out_of_range = decoded.iter().position(Option::is_none);
-        refuse_at(self.row_place(out_of_range), Cause::RowField)?;
+        let faulty_field = decoded.iter().enumerate().find_map(|(number, row)| {
+            let field = row.err()?;
+            Some(self.row_place(number) + field.offset())
+        });
+        refuse_at(faulty_field, Cause::RowField)?;
 
         let rows: Vec<Row> = decoded.into_iter().flatten().collect();
         let below_the_one_before = rows
             .windows(2)
             .position(|pair| matches!(pair, [before, row] if row.process < before.process))
-            .map(|before| before + 1);
-        refuse_at(self.row_place(below_the_one_before), Cause::RowOrder)?;
+            .map(|before| self.row_place(before + 1));
+        refuse_at(below_the_one_before, Cause::RowOrder)?;
 
-        let equal_for_equal = rows.iter().position(Row::swaps_equal_for_equal);
-        refuse_at(self.row_place(equal_for_equal), Cause::OldEqualsNew)?;
+        let equal_for_equal = rows
+            .iter()
+            .position(Row::swaps_equal_for_equal)
+            .map(|number| self.row_place(number));
+        refuse_at(equal_for_equal, Cause::OldEqualsNew)?;
         Ok(rows)
     }
 
@@ -145,8 +152,8 @@ impl Header {
     }
 
     /// The place of a row, from its number.
-    fn row_place(&self, row: Option<usize>) -> Option<usize> {
-        row.map(|number| self.first_row_place() + Row::BYTES * number)
+    fn row_place(&self, number: usize) -> usize {
+        self.first_row_place() + Row::BYTES * number
     }
 }
 
