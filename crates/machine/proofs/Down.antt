@@ -8,30 +8,27 @@ use native.Mathlib.Omega.{arith}
 use lib.ListN.{length, getD, take, drop, set, length-map}
 use lib.Seq.{drop-cons, getD-at, set-at, take-suc, length-take-le, take-length, drop-length}
 use Rattle.machine.specs.declared.Process.{Process}
-use Rattle.machine.specs.Records.{crashed, nobody}
+use Rattle.machine.specs.Records.{crashed, nobody, downTo}
 
 map-append : (f : Process → Process) (xs ys : List Process) → map f (xs ++ ys) ≡ map f xs ++ map f ys
 map-append f [] ys = refl
 map-append f (x ∷ xs) ys = ap (λ (l : List Process). f x ∷ l) (map-append f xs ys)
 
-abbrev pub mixed : ℕ → List Process → List Process
-mixed i ps = map crashed (take i ps) ++ drop i ps
-
 module _ (i : ℕ) (ps : List Process) (h : i < length ps) where
   front : length (map crashed (take i ps)) ≡ i
   front = length-map (take i ps) crashed ∙ length-take-le i ps (omega arith)
 
-  same : getD (mixed i ps) i nobody ≡ getD ps i nobody
+  same : getD (downTo i ps) i nobody ≡ getD ps i nobody
   same = rw (drop-cons ps i nobody h) (getD-at (map crashed (take i ps)) (getD ps i nobody) (drop (suc i) ps) nobody i front)
 
-  pub mixed-step : set (mixed i ps) i (crashed (getD (mixed i ps) i nobody)) ≡ mixed (i + 1) ps
-  mixed-step =
+  pub down-step : set (downTo i ps) i (crashed (getD (downTo i ps) i nobody)) ≡ downTo (i + 1) ps
+  down-step =
       rw (same, drop-cons ps i nobody h)
       (set-at (map crashed (take i ps)) (getD ps i nobody) (drop (suc i) ps) (crashed (getD ps i nobody)) i front
       ∙ rw (add-one i, take-suc ps i nobody h, map-append crashed (take i ps) (getD ps i nobody ∷ [])) (sym (append-assoc (map crashed (take i ps)) (crashed (getD ps i nobody) ∷ []) (drop (suc i) ps))))
 
-pub mixed-turn : (i : ℕ) (ps out : List Process) (x : Process) → i < length ps → out ≡ mixed i ps → x ≡ crashed (getD out i nobody) → set out i x ≡ mixed (i + 1) ps
-mixed-turn i ps out x h e f = rw (f, e) (mixed-step i ps h)
+pub down-turn : (i : ℕ) (ps out : List Process) (x : Process) → i < length ps → out ≡ downTo i ps → x ≡ crashed (getD out i nobody) → set out i x ≡ downTo (i + 1) ps
+down-turn i ps out x h e f = rw (f, e) (down-step i ps h)
 
-pub mixed-end : (i : ℕ) (ps : List Process) → i ≡ length ps → mixed i ps ≡ map crashed ps
-mixed-end i ps e = rw (e, take-length ps, drop-length ps, append-nil (map crashed ps))
+pub down-end : (i : ℕ) (ps : List Process) → i ≡ length ps → downTo i ps ≡ map crashed ps
+down-end i ps e = rw (e, take-length ps, drop-length ps, append-nil (map crashed ps))

@@ -4,6 +4,8 @@
 -- Assumes nothing.
 use Prim.Native.Nat.{ℕ, suc}
 use mathlib.Core.Path.{_≡_}
+use mathlib.Core.List.{List, _++_, map}
+use lib.ListN.{take, drop}
 use mathlib.Core.Bool.{Bool, false}
 use Rattle.machine.specs.declared.Process.{Process}
 use Rattle.machine.specs.declared.Stage.the-variants.{A1, V1}
@@ -46,6 +48,10 @@ started k r = record { status = Busy A1 0 0 0 None; opened = Open k; stored = r 
 -- "Crash: an awake process goes down."
 abbrev pub crashed : Process → Process
 crashed r = with-status Down r
+
+-- the first n of a list of records brought down, the others as they were
+abbrev pub downTo : ℕ → List Process → List Process
+downTo n records = map crashed (take n records) ++ drop n records
 
 -- "Wake: a process that is down goes to V1 if a row is open, else idle."
 abbrev pub wokenUp : Opened → Status

@@ -10,6 +10,7 @@ mod step;
 
 pub use records::crash;
 pub use records::crash_all;
+pub use records::crash_first;
 pub use records::fresh;
 pub use records::wake;
 pub use said::entry_of;

@@ -5,7 +5,7 @@ use super::Process;
 use super::Stage;
 use super::Status;
 ghost use mathlib.Core.Path.{_≡_};
-ghost use Prim.Native.Nat.{_+_, _<_};
+ghost use Prim.Native.Nat.{_+_, _≤_, _<_};
 ghost use mathlib.Core.List.{map};
 ghost use Rattle.machine.specs.Records as records;
 
@@ -164,16 +164,24 @@ pub fn wake(process: Process) -> Process
     }
 }
 
-// "Crash of all: every awake process goes down."
-pub fn crash_all(processes: [Process; 16]) -> [Process; 16]
-    ensures { λ r. ⌜ r ≡ map records.crashed processes ⌝ }
+// Brings the first `count` processes down, and leaves the others as they were.
+pub fn crash_first(processes: [Process; 16], count: usize) -> [Process; 16]
+    requires { ⌜ count ≤ 16 ⌝ }
+    ensures { λ r. ⌜ r ≡ records.downTo count processes ⌝ }
 {
     let mut down = processes;
     let mut i = 0;
-    while i < 16 {
+    while i < count {
         let process = down[i];
         down[i] = crash(process);
         i += 1;
     }
     down
+}
+
+// "Crash of all: every awake process goes down."
+pub fn crash_all(processes: [Process; 16]) -> [Process; 16]
+    ensures { λ r. ⌜ r ≡ map records.crashed processes ⌝ }
+{
+    crash_first(processes, 16)
 }

@@ -2,15 +2,13 @@
 -- Assumes nothing.
 use mathlib.Core.Path.{_≡_, refl, sym, ap, _∙_}
 use mathlib.Core.List.{List, [], _∷_, _++_}
-use Prim.Native.Nat.{ℕ, zero, suc, _+_, _*_, _-_}
+use Prim.Native.Nat.{ℕ, suc, _-_}
 use native.Mathlib.Omega.{arith}
-use native.Mathlib.Nat.{add-assoc}
-use lib.ListN.{length, take, drop, length-drop, length-set}
-use lib.Seq.{take-all, getD-drop}
+use lib.ListN.{length, take, drop, length-set}
 use Rattle.runfile.specs.declared.Header.{Header}
 use Rattle.runfile.specs.declared.Row.{Row}
 use Rattle.runfile.specs.declared.Checked.the-variants.{Accepted}
-use Rattle.runfile.specs.Layout.{u16At, rowAt, rowsStart, scheduleStart, scheduleIn}
+use Rattle.runfile.specs.Layout.{rowAt, rowsStart, scheduleStart, scheduleIn}
 use Rattle.runfile.specs.Actions.{Action, step as steps, crash as crashes, wake as wakes, crashAll as crashesAll, none as idles, action, named}
 use Rattle.runfile.specs.Operations.{wordsFrom, wordsOf, rowsFrom, tableOf}
 use Rattle.runfile.specs.Lawful.{Lawful}
@@ -19,6 +17,7 @@ use Rattle.machine.specs.Machine.{State, Effect, quiet, swaps, logs, replies, w
 use Rattle.run.specs.declared.Outcome.the-variants.{Ran}
 use Rattle.run.specs.Buffers.{Runnable, Holds}
 use Rattle.run.specs.Run.{endOf, roomOf, EndsAs}
+use Rattle.run.specs.Parts.{part-all, rows-part, lined-part, words-part}
 use Rattle.runfile.specs.OperationLaws.{length-wordsFrom}
 use Rattle.run.proofs.Cut.{cut, after-begin}
 
@@ -42,35 +41,6 @@ unfolding after step
 words-length rows t [] s = refl
 words-length rows t (b ∷ bytes) s = words-length rows (suc t) bytes (step rows t b s) ∙ act-length rows t (action b) (named b) s
 
--- a part to the end
-pub part-all : (f : List ℕ) (at : ℕ) → take (length f - at) (drop at f) ≡ drop at f
-part-all f at = take-all (length f - at) (drop at f) (simp length-drop (omega arith))
-
--- the rows of the file's part that begins at `start`
-row-part : (f : List ℕ) (start at : ℕ) → rowAt (drop start f) at ≡ rowAt f (start + at)
-unfolding rowAt u16At
-row-part f start at =
-    rw (
-      getD-drop start f at 0,
-      getD-drop start f (at + 1) 0,
-      getD-drop start f (at + 2) 0,
-      getD-drop start f (at + 4) 0,
-      getD-drop start f (at + 4 + 1) 0,
-      getD-drop start f (at + 6) 0,
-      getD-drop start f (at + 6 + 1) 0,
-      add-assoc start at 1,
-      add-assoc start at 2,
-      add-assoc start at 4,
-      add-assoc start (at + 4) 1,
-      add-assoc start at 6,
-      add-assoc start (at + 6) 1,
-    )
-
-rows-part : (f : List ℕ) (start at n : ℕ) → rowsFrom (drop start f) at n ≡ rowsFrom f (start + at) n
-unfolding rowsFrom
-rows-part f start at zero = refl
-rows-part f start at (suc n) = rw (row-part f start at, rows-part f start (at + 8) n, ← (add-assoc start at 8))
-
 module _ (h : Header) (f words log answers : List ℕ) (l : Lawful h f (roomOf words log answers)) where
   -- what the run asks
   pub runnable : Runnable (drop (rowsStart h) f) (h .rows) (scheduleIn h f) (wordsFrom f (h .words)) log answers
@@ -82,12 +52,8 @@ module _ (h : Header) (f words log answers : List ℕ) (l : Lawful h f (roomOf w
       let log-room = l .log-room in
       let answers-room = l .answers-room in
       record {
-        lined = record {
-          whole = simp length-drop (omega arith);
-          few = l .head .rows;
-          processes = λ k i. rw (getD-drop (rowsStart h) f (k * 8) 0) (let a = l .rows k i .process in let b = l .head .processes in omega arith);
-        };
-        on-words = λ k i. rw (getD-drop (rowsStart h) f (k * 8 + 2) 0, length-wordsFrom f (h .words), ← (add-assoc (rowsStart h) (k * 8) 2)) (l .rows k i .word);
+        lined = lined-part h f (roomOf words log answers) l;
+        on-words = λ k i. rw (length-wordsFrom f (h .words)) (words-part h f (roomOf words log answers) l k i);
         short = omega arith;
         log-room = omega arith;
         answers-room = omega arith;

@@ -1,3 +1,5 @@
 pub mod Buffers
 pub mod Run
 pub mod Only
+pub mod Turns
+pub mod Parts

@@ -7,6 +7,8 @@ use runfile::Checked;
 use runfile::Header;
 use runfile::Refusal;
 use runfile::Room;
+pub use schedule::lost_at;
+pub use schedule::put_word;
 use schedule::run_schedule;
 ghost use Rattle.runfile.specs.Lawful.{Lawful};
 ghost use Rattle.runfile.specs.declared.Checked.the-variants as checked;

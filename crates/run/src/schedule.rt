@@ -15,7 +15,7 @@ ghost use Rattle.machine.specs.Reach.{Reach};
 ghost use Rattle.run.specs.Buffers.{Holds, Runnable, Looked};
 
 // Puts a number into the word that row k is on.
-fn put_word(table: &[u8], k: u16, words: &mut [u32], new: u32)
+pub fn put_word(table: &[u8], k: u16, words: &mut [u32], new: u32)
     requires { ⌜ Reach (now table) k (now words) ⌝ }
     ensures { λ _. ⌜ now (words .exit) ≡ set (now (words .entry)) (rowAt (now (table .entry)) (k * 8) .word) new ⌝ }
 {
@@ -24,7 +24,7 @@ fn put_word(table: &[u8], k: u16, words: &mut [u32], new: u32)
 }
 
 // The position that a lost swap of row k takes in the log.
-fn lost_at(
+pub fn lost_at(
     table: &[u8],
     n: usize,
     k: u16,

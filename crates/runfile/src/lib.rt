@@ -12,6 +12,7 @@ use offends::first_bad_byte;
 use offends::first_bad_field;
 use offends::first_below;
 use offends::first_same;
+pub use offends::is_bad_byte;
 use read::has_mark;
 use read::header_of;
 pub use read::index8;

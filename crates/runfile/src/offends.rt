@@ -72,7 +72,7 @@ fn is_same(file: &[u8], at: usize) -> bool
 }
 
 // Refusal 12, of one byte: 0 step, 1 crash and 2 wake name a process, 3 to 14 are no action, 15 names none.
-fn is_bad_byte(byte: u8, processes: u8) -> bool
+pub fn is_bad_byte(byte: u8, processes: u8) -> bool
     ensures { λ r. ⌜ r ≡ badByte processes byte ⌝ }
 {
     match byte / 16 {

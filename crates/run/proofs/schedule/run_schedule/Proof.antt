@@ -23,7 +23,8 @@ use Rattle.machine.specs.Records.{nobody, rowOpen}
 use Rattle.machine.specs.Steps.{entry, stepTurn}
 use Rattle.machine.specs.Laws.{Sane}
 use Rattle.machine.specs.Reach.{Reach}
-use Rattle.run.proofs.Loop.{at-row, at-swap, Holding, Acts, acts-open, row-is, turn-is, state-end, hold-start, sane-mine, hold-still, hold-record, hold-won, hold-said, hold-lost, hold-answer, hold-crash, hold-wake, hold-all, hold-none}
+use Rattle.run.specs.Turns.{at-row, at-swap, Acts, acts-open, row-is, turn-is}
+use Rattle.run.proofs.Loop.{Holding, state-end, hold-start, sane-mine, hold-still, hold-record, hold-won, hold-said, hold-lost, hold-answer, hold-crash, hold-wake, hold-all, hold-none}
 use borrow.Author.Needs.{needs}
 use Rattle.run.proofs.schedule.run_schedule.Statement.{statement}
 use Rattle.run.proofs.schedule.run_schedule.Tie as tie

@@ -1,0 +1,71 @@
+-- `crash_first` meets its contract. Invariant: before turn i the first i records are down, the others as they were. Measure: the records left.
+-- Assumes nothing.
+use mathlib.Core.Path.{_≡_, refl, ap, _∙_}
+use Prim.Native.Nat.{_≤_, _-_}
+use native.Mathlib.Omega.{arith}
+use lib.ListN.{length, length-set}
+use Rattle.machine.proofs.Down.{down-turn}
+use Rattle.machine.specs.Records.{downTo}
+use borrow.Author.Needs.{needs}
+use Rattle.machine.proofs.records.crash_first.Statement.{statement}
+use Rattle.machine.proofs.records.crash_first.Tie as tie
+
+abbrev Inv-loop : tie.InvT-loop
+Inv-loop count down₀ i₀ down i = (i ≤ count) × (count ≤ 16) × (length down₀ ≡ 16) × (length down ≡ 16) × (down ≡ downTo i down₀)
+
+abbrev μ-loop : tie.MeasureT-loop
+μ-loop count down₀ i₀ down i = count - i
+
+loop-holds : tie.Need-loop-holds Inv-loop μ-loop
+loop-holds c = (search needs, search needs, search needs, search needs, refl)
+
+mul-process : tie.Need-mul-process Inv-loop μ-loop
+mul-process c = search needs
+
+array-copy-out-process : tie.Need-array-copy-out-process Inv-loop μ-loop
+array-copy-out-process c = search needs
+
+crash-requires : tie.Need-crash-requires Inv-loop μ-loop
+crash-requires c κs = search needs
+
+mul-down : tie.Need-mul-down Inv-loop μ-loop
+mul-down c = search needs
+
+array-set-from-down : tie.Need-array-set-from-down Inv-loop μ-loop
+array-set-from-down c = search needs
+
+add-i : tie.Need-add-i Inv-loop μ-loop
+add-i c = search needs
+
+loop-less : tie.Need-loop-less Inv-loop μ-loop
+loop-less c = search needs
+
+loop-again : tie.Need-loop-again Inv-loop μ-loop
+loop-again c =
+    let l = c .before .before .before in
+    let v = l .loop .inv in
+    (search needs, v .1, v .2, simp length-set (v .3), down-turn (l .loop .i) (l .before .args .processes) (l .loop .down) (c .crash .result) (omega arith) (v .4) (c .crash .ensures))
+
+returns : tie.Need-returns Inv-loop μ-loop
+returns c =
+    let l = c .before in
+    let v = l .loop .inv in
+    let all : l .loop .i ≡ l .before .args .count = omega arith in
+    v .4 ∙ ap (λ n. downTo n (l .before .args .processes)) all
+
+pub crash-first-spec : {M : Type 1} → statement M
+crash-first-spec =
+    tie.close
+    (tie.spec
+    Inv-loop
+    μ-loop
+    loop-holds
+    mul-process
+    array-copy-out-process
+    crash-requires
+    mul-down
+    array-set-from-down
+    add-i
+    loop-less
+    loop-again
+    returns)

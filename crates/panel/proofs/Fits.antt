@@ -1,0 +1,126 @@
+-- What holds of a key that is not refused: each test of the verdict has failed; and a record that can be is sane, so that it is able to step.
+-- Assumes nothing.
+use Prim.Native.Nat.{ℕ, zero, suc, _+_, _*_, _≤_, _<_}
+use mathlib.Core.Path.{_≡_, refl, subst}
+use mathlib.Core.Bool.{Bool, true, false, cond, not, _||_}
+use mathlib.Core.List.{List}
+use native.Mathlib.Omega.{arith}
+use lib.Dec.{eqb, ltb}
+use lib.ListN.{length, getD}
+use mathlib.Core.Logic.{_≢_}
+use borrow.Author.Tests.{ltb-false, leb-false, eqb-true, eqb-false, not-false}
+use Rattle.runfile.specs.declared.Header.{Header}
+use Rattle.runfile.specs.declared.Row.{Row}
+use Rattle.runfile.specs.declared.Checked.{Checked}
+use Rattle.runfile.specs.declared.Checked.the-variants as checked
+use Rattle.runfile.specs.Operations.{tableOf, first, count}
+use Rattle.runfile.specs.Refusals.{badByte, refusalOf}
+use Rattle.runfile.specs.Lawful.{lawful}
+use Rattle.runfile.specs.Lines.{last-fits}
+use Rattle.machine.specs.declared.Process.{Process}
+use Rattle.machine.specs.declared.Opened.{Opened}
+use Rattle.machine.specs.declared.Opened.the-variants.{Nothing as Closed, Row as Open}
+use Rattle.machine.specs.declared.Status.{Status}
+use Rattle.machine.specs.declared.Status.the-variants.{Down, Idle, N2, N3, Busy}
+use Rattle.machine.specs.Records.{nobody, WorkOpen, Announcing}
+use Rattle.machine.specs.Laws.{Sane}
+use Rattle.panel.specs.declared.Verdict.{Verdict}
+use Rattle.panel.specs.declared.Verdict.the-variants.{Fine, Not}
+use Rattle.panel.specs.declared.Why.{Why}
+use Rattle.panel.specs.Possible.{tooMany, notLast, openWhile, noneAt, noneLeft, misplaced, impossible, anyImpossible}
+use Rattle.panel.specs.Press.{Pressing, Lent, ample, andThen, roomy, sound, judged, judgedAs, verdictOf, Fit}
+use Rattle.panel.proofs.Ors.{different}
+
+not-fine : {why : Why} {at : ℕ} {h : Header} → Not why at ≡ Fine h → ⊥
+not-fine e = let z : _≡_ {A = ℕ} 0 1 = cc in omega arith
+
+same-header : {g h : Header} → Fine g ≡ Fine h → g ≡ h
+same-header e = cc
+
+-- a test that did not refuse
+passed : (c : Bool) (why : Why) (at : ℕ) (rest : Verdict) (h : Header) → cond c (Not why at) rest ≡ Fine h → (c ≡ false) × (rest ≡ Fine h)
+passed true why at rest h e = absurd (not-fine e)
+passed false why at rest h e = (refl, e)
+
+both-fine : (v next : Verdict) (h : Header) → andThen v next ≡ Fine h → ((g : Header) × (v ≡ Fine g)) × (next ≡ Fine h)
+both-fine (Not why at) next h e = absurd (not-fine e)
+both-fine (Fine g) next h e = ((g, refl), e)
+
+pub fit : (f : List ℕ) (n : ℕ) (k : Pressing) (l : Lent) (h : Header) → verdictOf f n k l ≡ Fine h → Fit h f k l
+unfolding verdictOf judged
+fit f n k l h e = go (refusalOf f ample) refl e
+  where
+    go : (c : Checked) → refusalOf f ample ≡ c → judgedAs c f n k l ≡ Fine h → Fit h f k l
+    go (checked.Refused why place) q e = absurd (not-fine e)
+    go (checked.Accepted g) q e =
+        let b = both-fine (roomy g n k l) (sound g f (l .processes) (k .byte) (k .position)) h e in
+        let r = b .0 .1 in
+        let r1 = passed (ltb (length (l .words)) (g .words)) _ _ _ _ r in
+        let r2 = passed (ltb n (g .processes)) _ _ _ _ (r1 .1) in
+        let r3 = passed (ltb (length (l .log)) (k .logRows * 5 + 5)) _ _ _ _ (r2 .1) in
+        let r4 = passed (ltb (length (l .answers)) (k .answerRows * 5 + 5)) _ _ _ _ (r3 .1) in
+        let s1 = passed (ltb 1023 (k .position)) _ _ _ _ (b .1) in
+        let s2 = passed (anyImpossible (tableOf g f) (l .processes) 0 (g .processes)) _ _ _ _ (s1 .1) in
+        let s3 = passed (badByte (g .processes) (k .byte)) _ _ _ _ (s2 .1) in
+        subst (λ h. Fit h f k l) (same-header (s3 .1))
+        (record {
+          lawful = lawful f ample g q;
+          words-room = ltb-false (length (l .words)) (g .words) (r1 .0);
+          log-room = ltb-false (length (l .log)) (k .logRows * 5 + 5) (r3 .0);
+          answers-room = ltb-false (length (l .answers)) (k .answerRows * 5 + 5) (r4 .0);
+          early = ltb-false 1023 (k .position) (s1 .0);
+          possible = s2 .0;
+          action = s3 .0;
+        })
+
+neither : (a b : Bool) → (a || b) ≡ false → (a ≡ false) × (b ≡ false)
+neither true b e = absurd (different e)
+neither false b e = (refl, e)
+
+-- each of the records can be
+pub each-possible : (rows : List Row) (ps : List Process) (from n p : ℕ) → anyImpossible rows ps from n ≡ false → from ≤ p → p < from + n → impossible rows p (getD ps p nobody) ≡ false
+unfolding anyImpossible
+each-possible rows ps from zero p e a b = absurd (omega arith)
+each-possible rows ps from (suc n) p e a b = go (eqb from p) refl (neither (impossible rows from (getD ps from nobody)) (anyImpossible rows ps (suc from) n) e) (λ h x. each-possible rows ps (suc from) n p h x (omega arith))
+  where
+    go : (c : Bool) → eqb from p ≡ c → (impossible rows from (getD ps from nobody) ≡ false) × (anyImpossible rows ps (suc from) n ≡ false)
+        → (anyImpossible rows ps (suc from) n ≡ false → suc from ≤ p → impossible rows p (getD ps p nobody) ≡ false) → impossible rows p (getD ps p nobody) ≡ false
+    go true q h more = subst (λ p. impossible rows p (getD ps p nobody) ≡ false) (eqb-true from p q) (h .0)
+    go false q h more = more (h .1) (let n : from ≢ p = eqb-false from p q in omega arith)
+
+-- a record that can be is sane
+pub sane-of : (rows : List Row) (p : ℕ) (r : Process) → impossible rows p r ≡ false → Sane rows p r
+unfolding impossible misplaced
+sane-of rows p r e =
+    let m = neither (misplaced (first rows p) (count rows p) r) _ e .0 in
+    let a = neither (tooMany (count rows p) (r .begun)) _ m in
+    let b = neither (notLast (first rows p) (r .begun) (r .opened)) _ (a .1) in
+    let c = neither (openWhile (r .opened) (r .status)) _ (b .1) in
+    let d = neither (noneAt (r .opened) (r .status)) (noneLeft (count rows p) (r .begun) (r .status)) (c .1) in
+    record {
+      in-file = λ k o. inside k (subst (λ o. notLast (first rows p) (r .begun) o ≡ false) o (b .0)) (ltb-false (count rows p) (r .begun) (a .0));
+      works = at-work (r .status) (r .opened) refl (d .0);
+      left = left (r .status) (d .1);
+    }
+  where
+    inside : (k : ℕ) → (eqb (r .begun) 0 || not (eqb (k + 1) (first rows p + r .begun))) ≡ false → r .begun ≤ count rows p → k < length rows
+    inside k h few =
+        let n = neither (eqb (r .begun) 0) (not (eqb (k + 1) (first rows p + r .begun))) h in
+        let q : k + 1 ≡ first rows p + r .begun = eqb-true (k + 1) (first rows p + r .begun) (not-false (eqb (k + 1) (first rows p + r .begun)) (n .1)) in
+        let f = last-fits rows p in
+        omega arith
+
+    at-work : (st : Status) (o : Opened) → r .opened ≡ o → noneAt o st ≡ false → WorkOpen st (r .opened)
+    at-work Down o q h = tt
+    at-work Idle o q h = tt
+    at-work N2 o q h = tt
+    at-work N3 o q h = tt
+    at-work (Busy stage seen readAt triedAt answer) Closed q h = absurd (different h)
+    at-work (Busy stage seen readAt triedAt answer) (Open k) q h = (k, q)
+
+    left : (st : Status) → noneLeft (count rows p) (r .begun) st ≡ false → Announcing st → r .begun < count rows p
+    left Down h x = absurd x
+    left Idle h x = absurd x
+    left N2 h x = leb-false (count rows p) (r .begun) h
+    left N3 h x = leb-false (count rows p) (r .begun) h
+    left (Busy stage seen readAt triedAt answer) h x = absurd x

@@ -1,0 +1,10 @@
+pub mod Tests
+pub mod Laying
+pub mod Joined
+pub mod Ors
+pub mod Search
+pub mod Effects
+pub mod Put
+pub mod Fits
+pub mod Carried
+pub mod Whole

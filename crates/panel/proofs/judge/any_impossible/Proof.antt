@@ -1,0 +1,148 @@
+-- `any_impossible` meets its contract. Invariant: what the search finds from p on is what the whole search finds. Measure: the records left.
+-- Assumes nothing.
+use Prim.Native.Nat.{_-_, _≤_, _<_}
+use mathlib.Core.Path.{_≡_, refl, sym, ap, _∙_}
+use mathlib.Core.List.{List}
+use native.Mathlib.Omega.{arith}
+use lib.ListN.{getD}
+use Rattle.runfile.specs.declared.Row.{Row}
+use denote.Ref.{now}
+use Rattle.runfile.specs.Operations.{rowsFrom, first, count}
+use Rattle.runfile.specs.OperationLaws.{length-rowsFrom}
+use Rattle.runfile.specs.Lines.{first-fits, last-fits, sums-are}
+use Rattle.machine.specs.Records.{nobody}
+use Rattle.panel.specs.Possible.{impossible, anyImpossible}
+use Rattle.panel.proofs.Ors.{or-hit, or-miss}
+use Rattle.panel.proofs.Search.{any-turn}
+use borrow.Author.Needs.{needs}
+use Rattle.panel.proofs.judge.any_impossible.Statement.{statement}
+use Rattle.panel.proofs.judge.any_impossible.Tie as tie
+use Rattle.panel.proofs.judge.any_impossible.Reads as reads
+use Rattle.panel.proofs.judge.any_impossible.Lts as lts
+use Rattle.panel.proofs.judge.is_impossible.Reads as is-impossible-reads
+use Rattle.runfile.proofs.counts_of.Reads as counts-of-reads
+use Rattle.runfile.proofs.firsts_of.Reads as firsts-of-reads
+
+abbrev Inv-loop : tie.InvT-loop
+Inv-loop table n present processes counts firsts p₀ p = (p ≤ present) × (anyImpossible (rowsFrom table 0 n) processes 0 present ≡ anyImpossible (rowsFrom table 0 n) processes p (present - p))
+
+abbrev μ-loop : tie.MeasureT-loop
+μ-loop table n present processes counts firsts p₀ p = present - p
+
+-- the two tables, at a process that there may be
+abbrev rowsAt : tie.At-loop Inv-loop μ-loop → List Row
+rowsAt l = rowsFrom (now (l .before .before .before .before .args .table)) 0 (l .before .before .before .before .args .n)
+
+counts-are : (l : tie.At-loop Inv-loop μ-loop) → l .loop .p < 16 → getD (l .before .before .counts-of .result) (l .loop .p) 0 ≡ count (rowsAt l) (l .loop .p)
+counts-are l h = l .before .before .counts-of .ensures .each (l .loop .p) h
+
+firsts-are : (l : tie.At-loop Inv-loop μ-loop) → l .loop .p < 16 → getD (l .before .firsts-of .result) (l .loop .p) 0 ≡ first (rowsAt l) (l .loop .p)
+firsts-are l h = l .before .firsts-of .ensures .each (l .loop .p) h ∙ sums-are (rowsAt l) _ (l .before .before .counts-of .ensures) (l .loop .p) (omega arith)
+
+low : (c : tie.After-process Inv-loop μ-loop) → c .before .before .loop .p < 16
+low c = let i = c .before .loop-test .taken in let w = c .before .before .before .before .before .before .pre .0 in omega arith
+
+-- what the record's test says
+tested : (c : tie.After-is-impossible Inv-loop μ-loop) → let l = c .before .before .before in c .is-impossible .result ≡ impossible (rowsAt l) (l .loop .p) (getD (l .before .before .before .before .args .t3) (l .loop .p) nobody)
+unfolding impossible
+tested c = let l = c .before .before .before in rw (firsts-are l (low (c .before)), counts-are l (low (c .before))) at (c .is-impossible .ensures)
+
+-- src/judge.rt:46:18
+counts-of-requires : tie.Need-counts-of-requires Inv-loop μ-loop
+counts-of-requires c κs = c .before .pre .1
+
+-- src/judge.rt:47:18
+firsts-of-requires : tie.Need-firsts-of-requires Inv-loop μ-loop
+firsts-of-requires c κs = let st = c .before .before in
+    let rs = rowsFrom (now (st .args .table)) 0 (st .args .n) in
+    let e = sums-are rs (c .counts-of .result) (c .counts-of .ensures) 16 (omega arith) in
+    let f = first-fits rs 16 in
+    let g = length-rowsFrom (now (st .args .table)) 0 (st .args .n) in
+    let d = st .pre .1 .few in
+    omega arith
+
+-- src/judge.rt:49:5
+loop-holds : tie.Need-loop-holds Inv-loop μ-loop
+loop-holds c = (search needs, ap (anyImpossible (rowsFrom (now (c .before .before .before .args .table)) 0 (c .before .before .before .args .n)) _ 0) (omega arith))
+
+-- src/judge.rt:50:23
+mul-process : tie.Need-mul-process Inv-loop μ-loop
+mul-process c = search needs
+
+-- src/judge.rt:50:23
+array-copy-out-process : tie.Need-array-copy-out-process Inv-loop μ-loop
+array-copy-out-process c = search needs
+
+-- src/judge.rt:51:36
+mul-is-impossible : tie.Need-mul-is-impossible Inv-loop μ-loop
+mul-is-impossible c = search needs
+
+-- src/judge.rt:51:36
+array-read-is-impossible : tie.Need-array-read-is-impossible Inv-loop μ-loop
+array-read-is-impossible c = search needs
+
+-- src/judge.rt:51:47
+mul-is-impossible-2 : tie.Need-mul-is-impossible-2 Inv-loop μ-loop
+mul-is-impossible-2 c = search needs
+
+-- src/judge.rt:51:47
+array-read-is-impossible-2 : tie.Need-array-read-is-impossible-2 Inv-loop μ-loop
+array-read-is-impossible-2 c = search needs
+
+-- src/judge.rt:51:12
+is-impossible-requires : tie.Need-is-impossible-requires Inv-loop μ-loop
+is-impossible-requires c κs = let l = c .before .before in
+    let st = l .before .before .before .before in
+    let f = last-fits (rowsAt l) (l .loop .p) in
+    let g = length-rowsFrom (now (st .args .table)) 0 (st .args .n) in
+    (st .pre .1 .whole, rw (firsts-are l (low c), counts-are l (low c)) (omega arith))
+
+-- src/judge.rt:52:13
+returns : tie.Need-returns Inv-loop μ-loop
+returns c = let l = c .before .before .before .before in
+    let t = c .before .before .before .loop-test .taken in
+    or-hit _ _ (sym (tested (c .before)) ∙ c .if1 .taken) ∙ sym (l .loop .inv .1 ∙ any-turn (rowsAt l) _ (l .loop .p) _ t)
+
+-- src/judge.rt:54:9
+add-p : tie.Need-add-p Inv-loop μ-loop
+add-p c = search needs
+
+-- src/judge.rt:49:5
+loop-less : tie.Need-loop-less Inv-loop μ-loop
+loop-less c = search needs
+
+-- src/judge.rt:49:5
+loop-again : tie.Need-loop-again Inv-loop μ-loop
+loop-again c = let l = c .before .before .before .before in
+    let t = c .before .before .before .loop-test .taken in
+    (search needs, l .loop .inv .1 ∙ any-turn (rowsAt l) _ (l .loop .p) _ t ∙ sym (or-miss _ _ _ (sym (tested (c .before)) ∙ c .if1 .left) refl))
+
+-- src/judge.rt:42:1
+returns-2 : tie.Need-returns-2 Inv-loop μ-loop
+unfolding anyImpossible
+returns-2 c = let l = c .before in
+    let e = l .loop .inv .0 in
+    let z : l .before .before .before .before .args .present - l .loop .p ≡ 0 = (let t = c .loop-test .left in omega arith) in
+    sym (l .loop .inv .1 ∙ ap (anyImpossible (rowsAt l) (l .before .before .before .before .args .t3) (l .loop .p)) z)
+
+pub any-impossible-spec : {M : Type 1} → statement M
+any-impossible-spec =
+    tie.close
+    (tie.spec
+    Inv-loop
+    μ-loop
+    counts-of-requires
+    firsts-of-requires
+    loop-holds
+    mul-process
+    array-copy-out-process
+    mul-is-impossible
+    array-read-is-impossible
+    mul-is-impossible-2
+    array-read-is-impossible-2
+    is-impossible-requires
+    returns
+    add-p
+    loop-less
+    loop-again
+    returns-2)

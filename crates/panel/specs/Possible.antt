@@ -1,0 +1,140 @@
+-- Which records the panel refuses under 21: change request 3, "one of the first P records with more rows begun than its process has, an open
+-- row that is not the last it began, an open row while idle or announcing, none at a later stage, announcing with no row left, no answer at
+-- A5, A6 or V5, or a stage or answer its row's kind never has". A definition for each; `first` is the process's first row, `count` how many it has.
+-- Assumes nothing.
+use Prim.Native.Nat.{ℕ, zero, suc, _+_}
+use mathlib.Core.Bool.{Bool, true, false, not, _||_}
+use mathlib.Core.List.{List}
+use lib.Dec.{eqb, leb, ltb}
+use lib.ListN.{getD}
+use Rattle.runfile.specs.declared.Row.{Row}
+use Rattle.runfile.specs.Operations.{rowNumbered, first, count, reads}
+use Rattle.machine.specs.declared.Process.{Process}
+use Rattle.machine.specs.declared.Stage.{Stage}
+use Rattle.machine.specs.declared.Stage.the-variants.{A1, A2, A3, A4, A5, A6, V1, V2, V3, V4, V5, V6}
+use Rattle.machine.specs.declared.Answer.the-variants.{False, True, Value}
+use Rattle.machine.specs.declared.Maybe.{Maybe}
+use Rattle.machine.specs.declared.Maybe.the-variants.{Nothing as None, Is}
+use Rattle.machine.specs.declared.Opened.{Opened}
+use Rattle.machine.specs.declared.Opened.the-variants.{Nothing as Closed, Row as Open}
+use Rattle.machine.specs.declared.Status.{Status}
+use Rattle.machine.specs.declared.Status.the-variants.{Down, Idle, N2, N3, Busy}
+use Rattle.machine.specs.Records.{nobody, rowOpen}
+
+-- The stages and answers of the two kinds. A read goes from A1 to A5 and has no checkpoint, so that its recovery goes from V2 to V6; a compare
+-- has every stage. A read answers with a value, a compare with false or true.
+abbrev pub readHas : Stage → Bool
+readHas A1 = true
+readHas A2 = false
+readHas A3 = false
+readHas A4 = false
+readHas A5 = true
+readHas A6 = true
+readHas V1 = true
+readHas V2 = true
+readHas V3 = false
+readHas V4 = false
+readHas V5 = true
+readHas V6 = true
+
+abbrev pub hasStage : Bool → Stage → Bool
+hasStage true stage = readHas stage
+hasStage false stage = true
+
+abbrev pub hasAnswer : Bool → Maybe → Bool
+hasAnswer isRead None = true
+hasAnswer isRead (Is False) = not isRead
+hasAnswer isRead (Is True) = not isRead
+hasAnswer isRead (Is (Value v)) = isRead
+
+abbrev pub isNone : Maybe → Bool
+isNone None = true
+isNone (Is a) = false
+
+abbrev pub isOpen : Opened → Bool
+isOpen Closed = false
+isOpen (Open k) = true
+
+-- "more rows begun than its process has"
+abbrev pub tooMany : (count begun : ℕ) → Bool
+tooMany count begun = ltb count begun
+
+-- "an open row that is not the last it began"
+abbrev pub notLast : (first begun : ℕ) → Opened → Bool
+notLast first begun Closed = false
+notLast first begun (Open k) = eqb begun 0 || not (eqb (k + 1) (first + begun))
+
+-- "an open row while idle or announcing"
+abbrev pub openWhile : Opened → Status → Bool
+openWhile opened Down = false
+openWhile opened Idle = isOpen opened
+openWhile opened N2 = isOpen opened
+openWhile opened N3 = isOpen opened
+openWhile opened (Busy stage seen readAt triedAt answer) = false
+
+-- "none at a later stage"
+abbrev pub noneAt : Opened → Status → Bool
+noneAt opened Down = false
+noneAt opened Idle = false
+noneAt opened N2 = false
+noneAt opened N3 = false
+noneAt opened (Busy stage seen readAt triedAt answer) = not (isOpen opened)
+
+-- "announcing with no row left"
+abbrev pub noneLeft : (count begun : ℕ) → Status → Bool
+noneLeft count begun Down = false
+noneLeft count begun Idle = false
+noneLeft count begun N2 = leb count begun
+noneLeft count begun N3 = leb count begun
+noneLeft count begun (Busy stage seen readAt triedAt answer) = false
+
+-- "no answer at A5, A6 or V5": A5 and A6 have the answer to store, V5 returns the stored one
+abbrev pub missing : Stage → (answer stored : Maybe) → Bool
+missing A1 answer stored = false
+missing A2 answer stored = false
+missing A3 answer stored = false
+missing A4 answer stored = false
+missing A5 answer stored = isNone answer
+missing A6 answer stored = isNone answer
+missing V1 answer stored = false
+missing V2 answer stored = false
+missing V3 answer stored = false
+missing V4 answer stored = false
+missing V5 answer stored = isNone stored
+missing V6 answer stored = false
+
+abbrev pub noAnswer : Maybe → Status → Bool
+noAnswer stored Down = false
+noAnswer stored Idle = false
+noAnswer stored N2 = false
+noAnswer stored N3 = false
+noAnswer stored (Busy stage seen readAt triedAt answer) = missing stage answer stored
+
+-- "a stage or answer its row's kind never has": of the stage and the answer to store, and of the answer stored for the open row
+abbrev pub wrongWork : Bool → Status → Bool
+wrongWork isRead Down = false
+wrongWork isRead Idle = false
+wrongWork isRead N2 = false
+wrongWork isRead N3 = false
+wrongWork isRead (Busy stage seen readAt triedAt answer) = not (hasStage isRead stage) || not (hasAnswer isRead answer)
+
+abbrev pub wrongKind : Bool → Opened → Maybe → Status → Bool
+wrongKind isRead Closed stored status = false
+wrongKind isRead (Open k) stored status = not (hasAnswer isRead stored) || wrongWork isRead status
+
+-- what is wrong with a record by its counts and its open row, and by what it does on it
+unfoldable pub misplaced : (first count : ℕ) → Process → Bool
+misplaced first count r =
+    tooMany count (r .begun) || (notLast first (r .begun) (r .opened) || (openWhile (r .opened) (r .status) || (noneAt (r .opened) (r .status) || noneLeft count (r .begun) (r .status))))
+
+unfoldable pub misdone : Bool → Process → Bool
+misdone isRead r = noAnswer (r .stored) (r .status) || wrongKind isRead (r .opened) (r .stored) (r .status)
+
+-- process p's record
+unfoldable pub impossible : List Row → ℕ → Process → Bool
+impossible rows p r = misplaced (first rows p) (count rows p) r || misdone (reads (rowNumbered rows (rowOpen (r .opened)))) r
+
+-- one of n records, from process p on
+unfoldable pub anyImpossible : List Row → List Process → (p n : ℕ) → Bool
+anyImpossible rows records p zero = false
+anyImpossible rows records p (suc n) = impossible rows p (getD records p nobody) || anyImpossible rows records (suc p) n

@@ -1,0 +1,150 @@
+// Whether a key is carried out: refusals 13 to 22, for a file that is accepted; and before them the file's own.
+use super::Verdict;
+use super::Why;
+use super::possible::misdone;
+use super::possible::misplaced;
+use machine::Opened;
+use machine::Process;
+use runfile::Checked;
+use runfile::Header;
+use runfile::Room;
+ghost use mathlib.Core.Path.{_≡_};
+ghost use mathlib.Core.Bool.{_||_};
+ghost use Prim.Native.Nat.{_+_, _*_, _≤_};
+ghost use lib.ListN.{length};
+ghost use Rattle.runfile.specs.Operations.{rowsFrom, rowNumbered, reads};
+ghost use Rattle.runfile.specs.Lawful.{Lawful};
+ghost use Rattle.runfile.specs.Lines.{Lined};
+ghost use Rattle.machine.specs.Records.{rowOpen};
+ghost use Rattle.panel.specs.Possible as possible;
+ghost use Rattle.panel.specs.Press as press;
+
+// Whether a record cannot be, whose process has `count` rows from row `first` on.
+fn is_impossible(table: &[u8], n: usize, first: u16, count: u16, process: Process) -> bool
+    requires { ⌜ (n * 8 ≤ length (now table)) × (first + count ≤ n) ⌝ }
+    ensures { λ r. ⌜ r ≡ (possible.misplaced first count process || possible.misdone (reads (rowNumbered (rowsFrom (now (table .entry)) 0 n) (rowOpen (process .opened)))) process) ⌝ }
+{
+    if misplaced(first, count, process) {
+        return true;
+    }
+    let opened = process.opened;
+    match opened {
+        // With no row open no kind is asked for.
+        Opened::Nothing => misdone(false, process),
+        Opened::Row(k) => {
+            let row = runfile::row_at(table, runfile::index16(k));
+            misdone(row.kind == 0, process)
+        }
+    }
+}
+
+// Whether one of the first `present` records cannot be.
+fn any_impossible(table: &[u8], n: usize, processes: [Process; 16], present: usize) -> bool
+    requires { ⌜ (present ≤ 16) × Lined (now table) n ⌝ }
+    ensures { λ r. ⌜ r ≡ possible.anyImpossible (rowsFrom (now (table .entry)) 0 n) processes 0 present ⌝ }
+{
+    let counts = runfile::counts_of(table, n);
+    let firsts = runfile::firsts_of(counts);
+    let mut p = 0;
+    while p < present {
+        let process = processes[p];
+        if is_impossible(table, n, firsts[p], counts[p], process) {
+            return true;
+        }
+        p += 1;
+    }
+    false
+}
+
+// 13 to 15: the words, the records, and room for one row more of each kind.
+fn room_verdict(
+    header: Header,
+    n: usize,
+    words: usize,
+    log: usize,
+    answers: usize,
+    log_rows: usize,
+    answer_rows: usize,
+) -> Verdict
+    ensures { λ r. ⌜ r ≡ press.roomyBy header n words log answers «log_rows» «answer_rows» ⌝ }
+{
+    if words < runfile::index8(header.words) {
+        return Verdict::Not(Why::Words, 0);
+    }
+    if n < runfile::index8(header.processes) {
+        return Verdict::Not(Why::Words, 0);
+    }
+    if log / 5 <= log_rows {
+        return Verdict::Not(Why::Log, 0);
+    }
+    if answers / 5 <= answer_rows {
+        return Verdict::Not(Why::Answers, 0);
+    }
+    Verdict::Fine(header)
+}
+
+// 21 and 22: the position, the records and the byte.
+fn sound_verdict(
+    file: &[u8],
+    header: Header,
+    processes: [Process; 16],
+    byte: u8,
+    position: usize,
+) -> Verdict
+    requires { ⌜ Lawful header (now file) press.ample ⌝ }
+    ensures { λ r. ⌜ r ≡ press.sound header (now (file .entry)) processes byte position ⌝ }
+{
+    if 1023 < position {
+        return Verdict::Not(Why::Record, 0);
+    }
+    let rows_at = runfile::rows_start(header);
+    let rows = runfile::index16(header.rows);
+    let present = runfile::index8(header.processes);
+    if any_impossible(&file[rows_at..], rows, processes, present) {
+        return Verdict::Not(Why::Record, 0);
+    }
+    if runfile::is_bad_byte(byte, header.processes) {
+        return Verdict::Not(Why::Key, 0);
+    }
+    Verdict::Fine(header)
+}
+
+// The verdict on a key. The file is checked with room for any run, so that 13 to 15 are not given for it.
+pub fn verdict_of(
+    file: &[u8],
+    n: usize,
+    processes: [Process; 16],
+    words: &[u32],
+    log: &[u32],
+    answers: &[u32],
+    byte: u8,
+    position: usize,
+    log_rows: usize,
+    answer_rows: usize,
+) -> Verdict
+    ensures { λ r. ⌜ r ≡ press.verdictOf (now (file .entry)) n (press.pressing byte position «log_rows» «answer_rows») (press.lent processes (now (words .entry)) (now (log .entry)) (now (answers .entry))) ⌝ }
+{
+    let room = Room {
+        words: 16,
+        log: 5120,
+        answers: 5120,
+    };
+    match runfile::check(file, room) {
+        Checked::Refused(why, place) => Verdict::Not(Why::File(why), place),
+        Checked::Accepted(header) => {
+            let roomy = room_verdict(
+                header,
+                n,
+                words.len(),
+                log.len(),
+                answers.len(),
+                log_rows,
+                answer_rows,
+            );
+            match roomy {
+                Verdict::Not(why, place) => Verdict::Not(why, place),
+                Verdict::Fine(_) => sound_verdict(file, header, processes, byte, position),
+            }
+        }
+    }
+}

@@ -1,0 +1,139 @@
+// The bench panel: one key, that is one byte of a schedule, over records that the caller keeps in a list of its own.
+//
+// The work is done by `press`, on a table of sixteen records by value. `key` is thin: it takes the lent records into
+// such a table, presses the key, and gives the records back.
+mod act;
+mod judge;
+mod possible;
+mod press;
+mod records;
+
+use machine::Process;
+use press::press;
+use records::give;
+use records::held;
+use records::take;
+use runfile::Header;
+ghost use Rattle.panel.specs.Key.{keyed};
+ghost use Rattle.panel.specs.Press.{Leaves};
+ghost use mathlib.Core.Path.{_≡_};
+
+// Why a key is refused.
+pub enum Why {
+    // One of the run file's own refusals, 1 to 12.
+    File(runfile::Refusal),
+    // The words buffer, or the list of records, is too short.
+    Words,
+    // No room for one more row.
+    Log,
+    Answers,
+    // The position, or a record, cannot be.
+    Record,
+    // The byte is no action.
+    Key,
+}
+
+// What a key comes to: refused, with the place in the file; or done, with the two row counts after it.
+pub enum Outcome {
+    Went { log: usize, answers: usize },
+    Refused(Why, usize),
+}
+
+// Whether a key is carried out, on a file with this header, or refused.
+pub enum Verdict {
+    Fine(Header),
+    Not(Why, usize),
+}
+
+// A record after its step, and the two row counts.
+pub struct Stepped {
+    pub process: Process,
+    pub log: usize,
+    pub answers: usize,
+}
+
+// The table after a key, and what the key came to.
+pub struct After {
+    pub processes: [Process; 16],
+    pub outcome: Outcome,
+}
+
+// The table that `press` left, by a function of its own: in a proof by hand, as that of `key`, a field that is an array
+// of structs cannot be read.
+fn processes_of(after: After) -> [Process; 16]
+    ensures { λ r. ⌜ r ≡ after .processes ⌝ }
+{
+    let processes = after.processes;
+    processes
+}
+
+// Likewise a struct that holds such a field cannot be built there.
+fn after_of(processes: [Process; 16], outcome: Outcome) -> After
+    ensures { λ r. ⌜ (r .processes ≡ processes) × (r .outcome ≡ outcome) ⌝ }
+{
+    After { processes, outcome }
+}
+
+// One key over the lent records: of more than sixteen only the first sixteen are looked at.
+pub fn key(
+    file: &[u8],
+    records: &mut [Process],
+    words: &mut [u32],
+    log: &mut [u32],
+    answers: &mut [u32],
+    byte: u8,
+    position: usize,
+    log_rows: usize,
+    answer_rows: usize,
+) -> Outcome
+    ensures { λ r. ⌜ Leaves (keyed (now (file .entry)) (now (records .entry)) (now (words .entry)) (now (log .entry)) (now (answers .entry)) byte position «log_rows» «answer_rows»)
+        r (now (records .exit)) (now (words .exit)) (now (log .exit)) (now (answers .exit)) ⌝ }
+{
+    let n = held(records.len());
+    let processes = take(records, n);
+    let after = press(
+        file,
+        n,
+        processes,
+        words,
+        log,
+        answers,
+        byte,
+        position,
+        log_rows,
+        answer_rows,
+    );
+    let left = processes_of(after);
+    give(records, n, left);
+    after.outcome
+}
+
+// A table of the caller's own, by value, is lent to `key` and comes back: whoever calls this lends no records.
+pub fn key_on_table(
+    file: &[u8],
+    processes: [Process; 16],
+    words: &mut [u32],
+    log: &mut [u32],
+    answers: &mut [u32],
+    byte: u8,
+    position: usize,
+    log_rows: usize,
+    answer_rows: usize,
+) -> After
+    ensures { λ r. ⌜ Leaves (keyed (now (file .entry)) processes (now (words .entry)) (now (log .entry)) (now (answers .entry)) byte position «log_rows» «answer_rows»)
+        (r .outcome) (r .processes) (now (words .exit)) (now (log .exit)) (now (answers .exit)) ⌝ }
+{
+    let mut records = processes;
+    let outcome = key(
+        file,
+        &mut records,
+        words,
+        log,
+        answers,
+        byte,
+        position,
+        log_rows,
+        answer_rows,
+    );
+    after_of(records, outcome)
+}
