@@ -2,7 +2,7 @@
 -- Assumes nothing.
 use Prim.Native.Nat.{ℕ, zero, suc, _+_, _≤_, _<_}
 use mathlib.Core.Path.{_≡_, refl, sym, _∙_, ap, ap₂, subst}
-use mathlib.Core.Bool.{Bool, true, false}
+use mathlib.Core.Bool.{Bool, true, false, true≢false}
 use mathlib.Core.List.{List, [], _∷_, _++_, map, append-nil}
 use lib.Dec.{eqb}
 use lib.ListN.{length, getD, set, List·getD-map, length-map}
@@ -21,9 +21,9 @@ use Rattle.machine.specs.Steps.{spoken}
 use Rattle.word.specs.Laws.{after-swap}
 use Rattle.replay.specs.Lists.{All, all-join, all-map, all-put, keep, keep-join, keep-put-no, keep-put-yes}
 use Rattle.replay.specs.Logs.{Ordered, sorted-put, Put, put, insert-last}
-use Rattle.replay.specs.Replay.{Good, final, moved-true, final-join, right-join, length-final, right-put, final-put, early-put, early-put-later, different, is-swap}
-use Rattle.demand3.specs.Statement.{of}
-use Rattle.demand3.specs.Invariant.{Times, wordOf, HasSwap, Since, as-read, overtaken, Global, Swapping, Logging, Allowed}
+use Rattle.replay.specs.Replay.{Good, final, moved-true, final-join, right-join, length-final, right-put, final-put, early-put, early-put-later, is-swap}
+use Rattle.demand3.specs.Statement.{of, wordOf}
+use Rattle.demand3.specs.Invariant.{Times, HasSwap, Since, as-read, overtaken, Global, Swapping, Logging, Allowed}
 use Rattle.demand3.specs.Frames.{Frame}
 
 map-set : (f : ℕ → ℕ) (l : List ℕ) (i y : ℕ) → map f (set l i y) ≡ set (map f l) i (f y)
@@ -99,7 +99,7 @@ module _ (rows : List Row) (start : List ℕ) where
     swap-ends : (p k t w x : ℕ) (e : Entry) (s : State) → Global rows start Late t s → Swapping rows start Late p k t s w x e → final rows start (s .log ++ e ∷ []) ≡ map value (set (s .words) w x)
     unfolding final isTrue spoken
     swap-ends p k t w x e s g a =
-        let v : ℕ = value (wordOf rows start k (s .words)) in
+        let v : ℕ = value (wordOf rows k (s .words)) in
         let n : ℕ = newOf (rowNumbered rows k) v in
         let now : getD (final rows start (s .log)) (rowNumbered rows k .word) 0 ≡ v = plain t s g (rowNumbered rows k .word) in
         final-join rows start (s .log) (e ∷ [])
@@ -107,7 +107,7 @@ module _ (rows : List Row) (start : List ℕ) where
         ∙ ap (λ k. set (final rows start (s .log)) (rowNumbered rows k .word) (newOf (rowNumbered rows k) (getD (final rows start (s .log)) (rowNumbered rows k .word) 0))) (a .row)
         ∙ ap (λ u. set (final rows start (s .log)) (rowNumbered rows k .word) (newOf (rowNumbered rows k) u)) now
         ∙ ap (λ vs. set vs (rowNumbered rows k .word) n) (g .ends)
-        ∙ ap₂ (λ w n. set (map value (s .words)) w n) (sym (a .word)) (sym (ap value (a .new) ∙ after-swap width p n (wordOf rows start k (s .words)) (good k .fits v) .value))
+        ∙ ap₂ (λ w n. set (map value (s .words)) w n) (sym (a .word)) (sym (ap value (a .new) ∙ after-swap width p n (wordOf rows k (s .words)) (good k .fits v) .value))
         ∙ sym (map-set value (s .words) w x)
 
     pub global-swap : (p k t w x : ℕ) (e : Entry) (ps : List Process) (s : State) → Global rows start Late t s → Swapping rows start Late p k t s w x e → Global rows start Late (suc t) (apply (swaps w x e) ps s)
@@ -140,8 +140,8 @@ module _ (rows : List Row) (start : List ℕ) where
           sorted =
               rw (p .now)
               (sorted-put (p .front) (p .back) e
-              (all-map (λ f. f .position ≤ e .position) (λ f. Ordered f e) (λ f h. record { le = h; lt = λ _ u. absurd (different (sym (a .no-swap) ∙ u)) }) (p .front) (p .low))
-              (all-map (λ f. e .position < f .position) (Ordered e) (λ f h. record { le = omega arith; lt = λ u _. absurd (different (sym (a .no-swap) ∙ u)) }) (p .back) (p .high))
+              (all-map (λ f. f .position ≤ e .position) (λ f. Ordered f e) (λ f h. record { le = h; lt = λ _ u. absurd (true≢false (sym (sym (a .no-swap) ∙ u))) }) (p .front) (p .low))
+              (all-map (λ f. e .position < f .position) (Ordered e) (λ f h. record { le = omega arith; lt = λ u _. absurd (true≢false (sym (sym (a .no-swap) ∙ u))) }) (p .back) (p .high))
               (rw was at (g .sorted)));
           below = rw (p .now) (all-put (λ e. e .position < suc t) (p .front) (p .back) e (omega arith) (rw was at (below-suc t (s .log) (g .below))));
           there-answers = g .there-answers;
@@ -223,7 +223,7 @@ module _ (rows : List Row) (start : List ℕ) where
             let inside : w < length (s .words) = subst (λ n. w < n) (sym (words-length t s g)) (subst (λ w. w < length start) (sym (a .word)) (good k .inside)) in
             ap (λ v. bit q (getD (set (s .words) w x) v 0)) (eqb-true v w h)
             ∙ ap (bit q) (getD-set-same (s .words) w x 0 inside ∙ a .new)
-            ∙ after-swap width p (newOf (rowNumbered rows k) (value (wordOf rows start k (s .words)))) (wordOf rows start k (s .words)) (good k .fits (value (wordOf rows start k (s .words)))) .others q ne
+            ∙ after-swap width p (newOf (rowNumbered rows k) (value (wordOf rows k (s .words)))) (wordOf rows k (s .words)) (good k .fits (value (wordOf rows k (s .words)))) .others q ne
             ∙ ap (λ v. bit q (getD (s .words) v 0)) (sym (a .word) ∙ sym (eqb-true v w h))
         go false h = ap (bit q) (getD-set-other (s .words) w v x 0 (eqb-false v w h))
 

@@ -24,7 +24,7 @@ use Rattle.rows.specs.Entries.{said, isTrue}
 use Rattle.rows.specs.Log.{isSwap}
 use Rattle.machine.specs.Steps.{sameBit, spoken}
 use Rattle.replay.specs.Lists.{All, keep}
-use Rattle.demand3.specs.Statement.{of, Once, Logged}
+use Rattle.demand3.specs.Statement.{of, Once, Logged, wordOf}
 use Rattle.replay.specs.Logs.{Sorted, early}
 use Rattle.replay.specs.Plain.{answerOf}
 use Rattle.replay.specs.Replay.{final, Right, RightAt}
@@ -47,13 +47,9 @@ abbrev pub Times : Type 1
 Times = ℕ → ℕ → Type 0
 
 module _ (rows : List Row) (start : List ℕ) where
-  -- the word of row k
-  abbrev pub wordOf : ℕ → List ℕ → ℕ
-  wordOf k words = getD words (rowNumbered rows k .word) 0
-
   -- whether p's own bit of row k's word is the kept one
   abbrev pub matches : ℕ → ℕ → List ℕ → Bool → Bool
-  matches p k words b = sameBit (bit p (wordOf k words)) b
+  matches p k words b = sameBit (bit p (wordOf rows k words)) b
 
   -- a swap on word w later than a is in the log
   pub record HasSwap (w a : ℕ) (log : List Entry) : Type 0 where
@@ -77,8 +73,8 @@ module _ (rows : List Row) (start : List ℕ) where
     pub compares : reads (rowNumbered rows k) ≡ false
     pub old : value x ≡ rowNumbered rows k .old
     pub seen : Seen Late k t a x log
-    pub since : Since (rowNumbered rows k .word) a (wordOf k words) x log
-    pub own : bit p x ≡ bit p (wordOf k words)
+    pub since : Since (rowNumbered rows k .word) a (wordOf rows k words) x log
+    pub own : bit p x ≡ bit p (wordOf rows k words)
 
   -- at A5: a swap that succeeded; an answer that held at the time of the reading; a lost swap
   pub data Pending (Late : Times) (p k t a x : ℕ) (words : List ℕ) (log : List Entry) (c b : Bool) (ans : Maybe) : Type 0 where
@@ -152,7 +148,7 @@ module _ (rows : List Row) (start : List ℕ) where
     pub row : e .row ≡ k
     pub truly : said e ≡ spoken (Is True)
     pub word : w ≡ rowNumbered rows k .word
-    pub new : x ≡ swapped p (newOf (rowNumbered rows k) (value (wordOf k (s .words)))) (wordOf k (s .words))
+    pub new : x ≡ swapped p (newOf (rowNumbered rows k) (value (wordOf rows k (s .words)))) (wordOf rows k (s .words))
     pub there : e .row < length rows
     pub right : RightAt rows (final rows start (s .log)) e
 

@@ -3,7 +3,7 @@
 -- Assumes nothing.
 use Prim.Native.Nat.{ℕ, _+_, _<_}
 use mathlib.Core.Path.{_≡_, sym, _∙_, subst}
-use mathlib.Core.Bool.{Bool}
+use mathlib.Core.Bool.{Bool, true≢false}
 use mathlib.Core.List.{List, map}
 use native.Mathlib.Omega.{arith}
 use lib.ListN.{length}
@@ -24,7 +24,7 @@ use Rattle.machine.specs.declared.Stage.the-variants.{A5, A6, V5}
 use Rattle.machine.specs.declared.Status.the-variants.{Busy}
 use Rattle.machine.specs.Machine.{State, procAt, after, begin}
 use Rattle.replay.specs.Lists.{keep-found}
-use Rattle.replay.specs.Replay.{first-swap, different}
+use Rattle.replay.specs.Replay.{first-swap}
 use Rattle.demand3.specs.Statement.{Beaten}
 use Rattle.demand3.specs.Invariant.{Times, HasSwap, Pending, won, held, lost, BusyOk, working, StatusOk}
 use Rattle.demand3.specs.Plans.{Plan}
@@ -48,7 +48,7 @@ module _ (rows : List Row) (start : List ℕ) (Late : Times) (p k t a x : ℕ) (
 
   pub lost-found : Pending rows start Late p k t a x words log c b (Is False) → value x ≡ rowNumbered rows k .old → Beaten rows (rowNumbered rows k .word) a log
   lost-found (won e h m) old = absurd (false-true e)
-  lost-found (held seen s n h) old = absurd (different (sym (answer-false (rowNumbered rows k) (value x) s) ∙ eq-eqb (value x) (rowNumbered rows k .old) old))
+  lost-found (held seen s n h) old = absurd (true≢false (sym (sym (answer-false (rowNumbered rows k) (value x) s) ∙ eq-eqb (value x) (rowNumbered rows k .old) old)))
   lost-found (lost seen e r o h m) old = beaten-of h
 
   pub pending-some : Pending rows start Late p k t a x words log c b None → ⊥

@@ -2,7 +2,7 @@
 -- Assumes nothing.
 use Prim.Native.Nat.{ℕ, suc, _+_, _≤_, _<_}
 use mathlib.Core.Path.{_≡_, refl, sym, _∙_, ap, ap₂, subst}
-use mathlib.Core.Bool.{Bool, true, false, not, cond}
+use mathlib.Core.Bool.{Bool, true, false, not, cond, true≢false}
 use mathlib.Core.List.{List, [], _∷_, _++_}
 use lib.Dec.{eqb, ltb}
 use lib.ListN.{length, getD, set}
@@ -35,10 +35,10 @@ use Rattle.word.specs.Laws.{after-swap}
 use Rattle.replay.specs.Lists.{All, all-map, all-right, Found, keep-found}
 use Rattle.replay.specs.Logs.{early, early-all, put}
 use Rattle.replay.specs.Plain.{answerOf}
-use Rattle.replay.specs.Replay.{Good, final, RightAt, different, swap-on, first-swap}
+use Rattle.replay.specs.Replay.{Good, final, RightAt, swap-on, first-swap}
 use Rattle.replay.specs.Replay as replay
-use Rattle.demand3.specs.Statement.{of, Logged}
-use Rattle.demand3.specs.Invariant.{Ended, due, Times, wordOf, matches, HasSwap, Seen, Since, as-read, overtaken, Reading, Pending, won, held, lost, AtStage, working, StatusOk, IsOpen, Local, Global, Swapping, Allowed}
+use Rattle.demand3.specs.Statement.{of, Logged, wordOf}
+use Rattle.demand3.specs.Invariant.{Ended, due, Times, matches, HasSwap, Seen, Since, as-read, overtaken, Reading, Pending, won, held, lost, AtStage, working, StatusOk, IsOpen, Local, Global, Swapping, Allowed}
 use Rattle.demand3.specs.Frames.{ended-alone}
 use Rattle.demand3.specs.Effects.{words-length, plain, of-put, of-last, of-put-own, of-last-own}
 
@@ -241,7 +241,7 @@ answer-never row v = go (reads row) (eqb v (row .old))
 module _ (rows : List Row) (start : List ℕ) (good : (k : ℕ) → Good (length start) (rowNumbered rows k)) (Late : Times) (mono : (k a b : ℕ) → a ≤ b → Late k a → Late k b) where
   module _ (p t : ℕ) (s : State) (r : Process) (g : Global rows start Late t s) (l : Local rows start Late p t s r) (now : (k : ℕ) → Late k t) (k : ℕ) (o : r .opened ≡ Open k) where
     abbrev word : ℕ
-    word = wordOf rows start k (s .words)
+    word = wordOf rows k (s .words)
 
     -- where a lost swap would go
     abbrev lostAt : ℕ → ℕ → ℕ
@@ -445,7 +445,7 @@ module _ (rows : List Row) (start : List ℕ) (good : (k : ℕ) → Good (length
     own-A5 x a ta (Is (Value v)) st (won e c m) = absurd (let z : _≡_ {A = ℕ} 0 1 = cc in omega arith)
     own-A5 x a ta None st (won e c m) = absurd (let z : _≡_ {A = ℕ} 0 1 = cc in omega arith)
     own-A5 x a ta None st (held h e n c) = absurd (answer-never (rowNumbered rows k) (value x) e)
-    own-A5 x a ta (Is True) st (held h e n c) = absurd (different (sym n))
+    own-A5 x a ta (Is True) st (held h e n c) = absurd (true≢false n)
     own-A5 x a ta (Is False) st (held h e n c) =
         rw (answer-false (rowNumbered rows k) (value x) e)
         (own-logs x a ta a False refl (h .past) (h .late) (e ∙ ap (answerOf (rowNumbered rows k)) (sym (h .then))) (stood None (rw (st, c))))

@@ -1,8 +1,8 @@
 -- What the refusals give of the rows: each is good, and the rows of a process stand together.
 -- Assumes nothing.
 use Prim.Native.Nat.{ℕ, zero, suc, _+_, _≤_, _<_}
-use mathlib.Core.Path.{_≡_, refl, sym}
-use mathlib.Core.Bool.{Bool, true, false, cond}
+use mathlib.Core.Path.{_≡_, refl}
+use mathlib.Core.Bool.{Bool, true, false, cond, true≢false}
 use mathlib.Core.List.{List, [], _∷_}
 use native.Mathlib.Omega.{arith}
 use mathlib.Core.Logic.{_≢_}
@@ -13,7 +13,7 @@ use borrow.Author.Tests.{eq-eqb, ne-eqb, eqb-true, eqb-false, ltb-true, ltb-fals
 use Rattle.runfile.specs.declared.Row.{Row}
 use Rattle.runfile.specs.Operations.{blank, rowNumbered, first, count}
 use Rattle.replay.specs.Lists.{All, all-map}
-use Rattle.replay.specs.Replay.{Good, different}
+use Rattle.replay.specs.Replay.{Good}
 
 -- refusals 9, 10 and 11 are given for none of the rows, over P processes and W words
 pub record Plan (P W : ℕ) (rows : List Row) : Type 0 where
@@ -54,7 +54,7 @@ good-at P W rows plan k = go (ltb k (length rows)) refl
   where
     go : (c : Bool) → ltb k (length rows) ≡ c → Good W (getD rows k blank)
     go true e = plan .good k (ltb-true k (length rows) e)
-    go false e = rw (List·getD-eq-default rows blank (ltb-false k (length rows) e)) (record { inside = plan .some-word; fits = λ v. lit< tt; differ = λ v e _ _. different (sym e) })
+    go false e = rw (List·getD-eq-default rows blank (ltb-false k (length rows) e)) (record { inside = plan .some-word; fits = λ v. lit< tt; differ = λ v e _ _. true≢false e })
 
 first-none : (p : ℕ) (rows : List Row) → All (λ q. p ≤ q .process) rows → first rows p ≡ 0
 unfolding first

@@ -68,8 +68,8 @@ module _ (rows : List Row) where
   abbrev pub ownerOf : ℕ → ℕ
   ownerOf k = rowNumbered rows k .process
 
-  abbrev pub wordOf : ℕ → State → ℕ
-  wordOf k s = getD (s .words) (rowNumbered rows k .word) 0
+  abbrev pub wordOf : ℕ → List ℕ → ℕ
+  wordOf k words = getD words (rowNumbered rows k .word) 0
 
   -- "A process's rows are carried out in file order": row k has been begun if its process has begun more rows than it has in front of k
   abbrev pub Begun : ℕ → State → Type 0
@@ -88,7 +88,7 @@ module _ (rows : List Row) where
 
   -- the byte at position t swaps for row k: the process that it names has row k open, and the row's word is changed by it
   unfoldable pub swapsAt : (k t byte : ℕ) → State → Bool
-  swapsAt k t byte s = isRow k (procAt (named byte) s .opened) && not (eqb (wordOf k s) (wordOf k (step rows t byte s)))
+  swapsAt k t byte s = isRow k (procAt (named byte) s .opened) && not (eqb (wordOf k (s .words)) (wordOf k (step rows t byte s .words)))
 
   -- how often row k swaps while these bytes go by, the first of them at position t
   unfoldable pub swapCount : (k t : ℕ) → List ℕ → State → ℕ

@@ -3,7 +3,7 @@
 -- Assumes nothing.
 use Prim.Native.Nat.{ℕ, suc, _+_, _^_, _≤_, _<_}
 use mathlib.Core.Path.{_≡_, refl, sym, _∙_, ap, subst}
-use mathlib.Core.Bool.{Bool, true, false, not, _&&_}
+use mathlib.Core.Bool.{Bool, true, false, not, _&&_, true≢false}
 use mathlib.Core.List.{List, [], _∷_, _++_}
 use native.Mathlib.Omega.{arith}
 use native.Mathlib.Nat.{zero-add}
@@ -25,7 +25,7 @@ use Rattle.machine.specs.Steps.{spoken}
 use Rattle.machine.specs.Machine.{State, Effect, quiet, swaps, logs, replies, wordsAfter, logAfter, procAt, step, after}
 use Rattle.replay.specs.Lists.{keep, keep-join, keep-put-yes}
 use Rattle.replay.specs.Logs.{Put, put}
-use Rattle.replay.specs.Replay.{Good, different}
+use Rattle.replay.specs.Replay.{Good}
 use Rattle.demand3.specs.Statement.{of, Once, Logged, isRow, counts, wordOf, swapsAt, swapCount, swapsTold}
 use Rattle.demand3.specs.Invariant.{due, Times, Inv, Allowed}
 use Rattle.demand3.specs.Effects.{of-put, words-length}
@@ -69,10 +69,10 @@ truesOf-false k {l} {l′} e p h = go (eqb (e .row) k) refl
 module _ (rows : List Row) (k : ℕ) where
   -- a change of the word, counted if the row is open
   abbrev counted : Bool → (s s′ : State) → ℕ
-  counted b s s′ = counts (b && not (eqb (wordOf rows k s) (wordOf rows k s′)))
+  counted b s s′ = counts (b && not (eqb (wordOf rows k (s .words)) (wordOf rows k (s′ .words))))
 
   unchanged : (b : Bool) (s s′ : State) → s′ .words ≡ s .words → counted b s s′ ≡ 0
-  unchanged b s s′ e = rw (eq-eqb (wordOf rows k s) (wordOf rows k s′) (ap (λ ws. getD ws (rowNumbered rows k .word) 0) (sym e))) (go b)
+  unchanged b s s′ e = rw (eq-eqb (wordOf rows k (s .words)) (wordOf rows k (s′ .words)) (ap (λ ws. getD ws (rowNumbered rows k .word) 0) (sym e))) (go b)
     where
       go : (b : Bool) → counts (b && false) ≡ 0
       go true = refl
@@ -83,8 +83,8 @@ module _ (rows : List Row) (k : ℕ) where
   turns p n w h e = same (bit p w) (ap (bit p) e ∙ after-swap width p n w h .own)
     where
       same : (b : Bool) → b ≡ not b → ⊥
-      same true e = different (sym e)
-      same false e = different e
+      same true e = true≢false e
+      same false e = true≢false (sym e)
 
 module _ (rows : List Row) (start : List ℕ) (good : (k : ℕ) → Good (length start) (rowNumbered rows k))
     (owner : (p i : ℕ) → i < count rows p → rowNumbered rows (first rows p + i) .process ≡ p)
@@ -99,13 +99,13 @@ module _ (rows : List Row) (start : List ℕ) (good : (k : ℕ) → Good (length
     count-effect p j (logs e) s′ a w l = not-counted (unchanged rows k (eqb j k) s s′ w) (ap (truesOf k) l ∙ truesOf-false k e (put e (s .log) (v .global .sorted)) (a .no-swap))
     count-effect p j (swaps x n e) s′ a w l = go (eqb j k) refl
       where
-        changed : j ≡ k → eqb (wordOf rows k s) (wordOf rows k s′) ≡ false
+        changed : j ≡ k → eqb (wordOf rows k (s .words)) (wordOf rows k (s′ .words)) ≡ false
         changed q =
             let inside : rowNumbered rows k .word < length (s .words) = rw (words-length rows start good Late t s (v .global)) (good k .inside) in
-            let is : wordOf rows k s′ ≡ swapped p (newOf (rowNumbered rows k) (value (wordOf rows k s))) (wordOf rows k s) =
+            let is : wordOf rows k (s′ .words) ≡ swapped p (newOf (rowNumbered rows k) (value (wordOf rows k (s .words)))) (wordOf rows k (s .words)) =
             ap (λ ws. getD ws (rowNumbered rows k .word) 0) (w ∙ ap (λ j. set (s .words) j n) (a .word ∙ ap (λ j. rowNumbered rows j .word) q)) ∙ getD-set-same (s .words) (rowNumbered rows k .word) n 0 inside
-            ∙ a .new ∙ ap (λ j. swapped p (newOf (rowNumbered rows j) (value (wordOf rows j s))) (wordOf rows j s)) q in
-            ne-eqb (wordOf rows k s) (wordOf rows k s′) (λ m. turns rows k p (newOf (rowNumbered rows k) (value (wordOf rows k s))) (wordOf rows k s) (good k .fits (value (wordOf rows k s))) (m ∙ is))
+            ∙ a .new ∙ ap (λ j. swapped p (newOf (rowNumbered rows j) (value (wordOf rows j (s .words)))) (wordOf rows j (s .words))) q in
+            ne-eqb (wordOf rows k (s .words)) (wordOf rows k (s′ .words)) (λ m. turns rows k p (newOf (rowNumbered rows k) (value (wordOf rows k (s .words)))) (wordOf rows k (s .words)) (good k .fits (value (wordOf rows k (s .words)))) (m ∙ is))
 
         go : (c : Bool) → eqb j k ≡ c → truesOf k (s′ .log) ≡ counted rows k c s s′ + truesOf k (s .log)
         go true q =

@@ -109,6 +109,12 @@ turned rows p t words log r = go (r .status) refl
     go N3 e = third-store e
     go (Busy stage seen readAt triedAt answer) e = work (r .opened) refl _ _ stage seen readAt triedAt answer
 
+-- a record that is there, whatever stands past the end
+pub getD-either : (l : List Process) (i : ℕ) (d e : Process) → i < length l → getD l i d ≡ getD l i e
+getD-either [] i d e h = absurd (omega arith)
+getD-either (x ∷ l) zero d e h = refl
+getD-either (x ∷ l) (suc i) d e h = getD-either l i d e (omega arith)
+
 -- the record of q after process p has been given another
 record-set : (l : List Process) (p q : ℕ) (r : Process) → ((q ≡ p) × (getD (set l p r) q fresh ≡ r)) ⊎ (getD (set l p r) q fresh ≡ getD l q fresh)
 record-set l p q r = go (eqb q p) refl (ltb p (length l)) refl
@@ -118,9 +124,9 @@ record-set l p q r = go (eqb q p) refl (ltb p (length l)) refl
     go true x true y = inl (eqb-true q p x, rw (eqb-true q p x) (getD-set-same l p r fresh (ltb-true p (length l) y)))
     go true x false y = inr (rw (set-out l p r (ltb-false p (length l) y)))
 
--- What holds of each process and its record goes on to hold, if steps, crashes and wakes keep it.
+-- What holds of each process and its record goes on to hold after a byte, if steps, crashes and wakes keep it.
 module _ (rows : List Row) (Q : ℕ → Process → Type 0)
-    (steps-keep : (p : ℕ) (r next : Process) → Q p r → Turned rows p r next → Q p next)
+    (steps-keep : (p t : ℕ) (words : List ℕ) (log : List Entry) (r : Process) → Q p r → Q p (turn rows p t words log r (r .status) .process))
     (crashes-keep : (p : ℕ) (r : Process) → Q p r → Q p (crashed r))
     (wakes-keep : (p : ℕ) (r : Process) → Q p r → Q p (waked r (r .status))) where
   Each : State → Type 0
@@ -141,7 +147,7 @@ module _ (rows : List Row) (Q : ℕ → Process → Type 0)
 
   each-act : (t : ℕ) (a : Action) (p : ℕ) (s : State) → Each s → Each (act rows t a p s)
   unfolding act applied apply Each procAt
-  each-act t steps p s h = each-set p _ s h (steps-keep p (procAt p s) _ (h p) (turned rows p t (s .words) (s .log) (procAt p s)))
+  each-act t steps p s h = each-set p _ s h (steps-keep p t (s .words) (s .log) (procAt p s) (h p))
   each-act t crashes p s h = each-set p _ s h (crashes-keep p (procAt p s) (h p))
   each-act t wakes p s h = each-set p _ s h (wakes-keep p (procAt p s) (h p))
   each-act t crashesAll p s h = λ q. go q (ltb q (length (s .processes))) refl
@@ -155,10 +161,21 @@ module _ (rows : List Row) (Q : ℕ → Process → Type 0)
           subst (Q q) (sym same) (h q)
   each-act t idles p s h = h
 
+  pub each-step : (t byte : ℕ) (s : State) → ((q : ℕ) → Q q (procAt q s)) → (q : ℕ) → Q q (procAt q (step rows t byte s))
+  unfolding step Each
+  each-step t byte s h = each-act t (action byte) (named byte) s h
+
+-- The same after a schedule, for what is kept by whatever a step may make of a record.
+module _ (rows : List Row) (Q : ℕ → Process → Type 0)
+    (steps-keep : (p : ℕ) (r next : Process) → Q p r → Turned rows p r next → Q p next)
+    (crashes-keep : (p : ℕ) (r : Process) → Q p r → Q p (crashed r))
+    (wakes-keep : (p : ℕ) (r : Process) → Q p r → Q p (waked r (r .status))) where
   pub each-after : (t : ℕ) (bytes : List ℕ) (s : State) → ((q : ℕ) → Q q (procAt q s)) → (q : ℕ) → Q q (procAt q (after rows t bytes s))
-  unfolding after step Each
+  unfolding after
   each-after t [] s h = h
-  each-after t (byte ∷ bytes) s h = each-after (suc t) bytes (step rows t byte s) (each-act t (action byte) (named byte) s h)
+  each-after t (byte ∷ bytes) s h =
+      each-after (suc t) bytes (step rows t byte s)
+      (each-step rows Q (λ p t words log r x. steps-keep p r _ x (turned rows p t words log r)) crashes-keep wakes-keep t byte s h)
 
 -- an open row is a row of the file, in the midst of work a row is open, and in the midst of the announcement p has rows left
 pub record Sane (rows : List Row) (p : ℕ) (r : Process) : Type 0 where

@@ -4,7 +4,7 @@
 -- Assumes nothing.
 use Prim.Native.Nat.{ℕ, zero, suc, _^_, _≤_, _<_}
 use mathlib.Core.Path.{_≡_, refl, sym, _∙_, ap, ap₂, subst}
-use mathlib.Core.Bool.{Bool, true, false, cond, _&&_}
+use mathlib.Core.Bool.{Bool, true, false, cond, _&&_, true≢false}
 use mathlib.Core.List.{List, [], _∷_, _++_, append-nil}
 use native.Mathlib.Omega.{arith}
 use lib.Dec.{eqb, ltb}
@@ -26,9 +26,6 @@ pub record Good (W : ℕ) (row : Row) : Type 0 where
   pub inside : row .word < W
   pub fits : (v : ℕ) → newOf row v < 2 ^ width
   pub differ : (v : ℕ) → reads row ≡ false → v ≡ row .old → newOf row v ≡ v → ⊥
-
-pub different : false ≡ true → ⊥
-different h = let z : _≡_ {A = ℕ} 0 1 = cc in omega arith
 
 module _ (rows : List Row) where
   -- the values after an entry, after a log
@@ -148,10 +145,10 @@ answer-true row v = go (reads row) refl (eqb v (row .old)) refl
   where
     go : (c : Bool) → reads row ≡ c → (d : Bool) → eqb v (row .old) ≡ d
         → isTrue (cond c (record { verdict = 3; value = v }) (cond d (record { verdict = 1; value = 0 }) (record { verdict = 0; value = 0 }))) ≡ true → (reads row ≡ false) × (v ≡ row .old)
-    go true t true u h = absurd (different h)
-    go true t false u h = absurd (different h)
+    go true t true u h = absurd (true≢false (sym h))
+    go true t false u h = absurd (true≢false (sym h))
     go false t true u h = (t, eqb-true v (row .old) u)
-    go false t false u h = absurd (different h)
+    go false t false u h = absurd (true≢false (sym h))
 
 pub both-true-0 : (b c : Bool) → (b && c) ≡ true → b ≡ true
 both-true-0 true c h = refl
@@ -159,7 +156,7 @@ both-true-0 false c h = h
 
 pub both-true-1 : (b c : Bool) → (b && c) ≡ true → c ≡ true
 both-true-1 true c h = h
-both-true-1 false c h = absurd (different h)
+both-true-1 false c h = absurd (true≢false (sym h))
 
 -- a successful swap on word w later than a
 pub record SwapOn (rows : List Row) (w a : ℕ) (e : Entry) : Type 0 where
@@ -170,13 +167,13 @@ pub record SwapOn (rows : List Row) (w a : ℕ) (e : Entry) : Type 0 where
 
 names-there : (rows : List Row) (k w : ℕ) → names rows k w ≡ true → k < length rows
 unfolding names
-names-there [] k w h = absurd (different h)
+names-there [] k w h = absurd (true≢false (sym h))
 names-there (r ∷ rows) zero w h = omega arith
 names-there (r ∷ rows) (suc k) w h = let g : k < length rows = names-there rows k w h in omega arith
 
 names-on : (rows : List Row) (k w : ℕ) → names rows k w ≡ true → rowNumbered rows k .word ≡ w
 unfolding names rowNumbered
-names-on [] k w h = absurd (different h)
+names-on [] k w h = absurd (true≢false (sym h))
 names-on (r ∷ rows) zero w h = eqb-true (r .word) w h
 names-on (r ∷ rows) (suc k) w h = names-on rows k w h
 
@@ -239,7 +236,7 @@ module _ (rows : List Row) (start : List ℕ) (good : (k : ℕ) → Good (length
       ∙ ap (λ l. getD l w 0) (final-join rows start (early a m) (late a m))
       ∙ final-quiet rows w (final rows start (early a m)) (late a m)
       (all-map (λ y. ((isSwap rows w a y ≡ false) × (y .row < length rows)) × (a < y .position)) (Quiet rows w)
-      (λ y h t o. different (sym (h .0 .0) ∙ is-swap rows w a y (record { true-said = t; later = h .1; there = h .0 .1; on = o })))
+      (λ y h t o. true≢false (sym (sym (h .0 .0) ∙ is-swap rows w a y (record { true-said = t; later = h .1; there = h .0 .1; on = o }))))
       (late a m)
       (all-both (λ y. (isSwap rows w a y ≡ false) × (y .row < length rows)) (λ y. a < y .position) (late a m)
       (keep-keeps (λ y. (isSwap rows w a y ≡ false) × (y .row < length rows)) (isLate a) m (all-both (λ y. isSwap rows w a y ≡ false) (λ y. y .row < length rows) m none there))

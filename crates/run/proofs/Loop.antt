@@ -3,7 +3,7 @@
 -- Assumes nothing.
 use mathlib.Core.Path.{_≡_, refl, sym, ap, _∙_}
 use mathlib.Core.List.{List, [], _∷_, _++_, map}
-use Prim.Native.Nat.{ℕ, zero, suc, _+_, _≤_, _<_}
+use Prim.Native.Nat.{ℕ, _+_, _≤_, _<_}
 use native.Mathlib.Numerals.{add-one}
 use native.Mathlib.Nat.{zero-add}
 use native.Mathlib.Omega.{arith}
@@ -27,7 +27,7 @@ use Rattle.machine.specs.declared.Turn.the-variants.{Still, Quiet, Swaps, Logs,
 use Rattle.machine.specs.Records.{fresh, nobody, crashed, waked, rowOpen}
 use Rattle.machine.specs.Steps.{entry, stepTurn}
 use Rattle.machine.specs.Machine.{State, quiet, swaps, logs, replies, processOf, effectOf, moveOf, turn, apply, applied, procAt, act, step, after, begin}
-use Rattle.machine.specs.Laws.{after-snoc, Sane, sane}
+use Rattle.machine.specs.Laws.{after-snoc, getD-either, Sane, sane}
 use Rattle.run.specs.Buffers.{Holds}
 
 -- the state after the first i bytes
@@ -49,11 +49,6 @@ pub record Holding (rows : List Row) (start schedule log₀ answers₀ : List �
   pub size : length processes ≡ 16
   pub records : processes ≡ stateAt rows start schedule i .processes
   pub holds : Holds (stateAt rows start schedule i) log₀ answers₀ m k words log answers
-
-getD-either : (l : List Process) (i : ℕ) (d e : Process) → i < length l → getD l i d ≡ getD l i e
-getD-either [] i d e h = absurd (omega arith)
-getD-either (x ∷ l) zero d e h = refl
-getD-either (x ∷ l) (suc i) d e h = getD-either l i d e (omega arith)
 
 -- before the first byte
 pub hold-start : (rows : List Row) (schedule words log answers : List ℕ) (p : Process) → p ≡ fresh → Holding rows words schedule log answers 0 words log answers (replicate 16 p) 0 0

@@ -1,13 +1,13 @@
 -- What a file is like that is not refused: the facts that later layers use, read off the checks that found nothing.
 -- Assumes nothing.
 use Prim.Native.Nat.{ℕ, zero, suc, _+_, _*_, _-_, _/_, _%_, _≤_, _<_}
-use mathlib.Core.Path.{_≡_, refl, sym, subst}
-use mathlib.Core.Bool.{Bool, true, false, cond, not, _&&_, _||_}
+use mathlib.Core.Path.{_≡_, refl, sym, _∙_, subst}
+use mathlib.Core.Bool.{Bool, true, false, cond, not, _&&_, _||_, true≢false}
 use mathlib.Core.List.{List}
 use native.Mathlib.Omega.{arith}
 use lib.Dec.{ltb, eqb}
 use lib.ListN.{getD, length, length-drop}
-use borrow.Author.Tests.{ltb-false, leb-false, eqb-false, eqb-true, not-false, eq-eqb, ne-eqb}
+use borrow.Author.Tests.{ltb-false, leb-false, eqb-false, eqb-true, not-false, eq-eqb, ne-eqb, le-ltb, lt-leb}
 use Rattle.runfile.specs.declared.Header.{Header}
 use Rattle.runfile.specs.declared.Row.{Row}
 use Rattle.runfile.specs.declared.Field.{Field}
@@ -20,7 +20,7 @@ use Rattle.runfile.specs.Fields.{fields, fieldAt, offsetOf, orderOf, ord
 use Rattle.runfile.specs.Actions.{crashAll, none, actionOf}
 use Rattle.runfile.specs.Refusals.{outOfRange, badField, badIn, sameFields, badAction, badByte, badFieldIn, firstBadField, firstRow, firstLaterRow, firstByte, below, same, found, headChecks, bodyChecks, fileChecks, roomChecks, inOrder, refusalOf}
 use Rattle.runfile.specs.Table.{Marked, rowOf, zeroByteOf, byteOf}
-use Rattle.runfile.specs.Order.{Clear, clear-parts, accepts, whole-clear}
+use Rattle.runfile.specs.Order.{Clear, clear-parts, accepts, accepted, passes, whole-clear}
 use Rattle.runfile.specs.Searches.{none-found, none-offends}
 
 -- refusals 2 to 8 are not given
@@ -64,8 +64,8 @@ pub record Lawful (h : Header) (f : List ℕ) (room : Room) : Type 0 where
   pub answers-room : 5 * h .steps ≤ room .answers
 
 -- tests that came out false, taken apart
-neither : (a b : Bool) → (a || b) ≡ false → (a ≡ false) × (b ≡ false)
-neither true b e = absurd (let z : _≡_ {A = Bool} true false = e in let y : _≡_ {A = ℕ} 0 1 = cc in omega arith)
+pub neither : (a b : Bool) → (a || b) ≡ false → (a ≡ false) × (b ≡ false)
+neither true b e = absurd (true≢false e)
 neither false b e = (refl, e)
 
 pub not-both : (a b : Bool) → (a && b) ≡ false → a ≡ true → b ≡ false
@@ -139,6 +139,17 @@ lawful-byte processes byte e = go (byte / 16) refl e
     go (suc (suc zero)) q e = of-one (omega arith) (leb-false processes (byte % 16) e)
     go (suc (suc (suc n))) q e = all (eqb (byte / 16) 15) refl (rw (← q, high-action (byte / 16) (omega arith)) at e)
 
+pub lawful-not-bad : (processes byte : ℕ) → LawfulByte processes byte → badByte processes byte ≡ false
+unfolding badByte
+lawful-not-bad processes byte (of-one high low) = go (byte / 16) high
+  where
+    go : (n : ℕ) → n < 3 → badAction processes (byte % 16) (actionOf n) ≡ false
+    go zero g = lt-leb processes (byte % 16) low
+    go (suc zero) g = lt-leb processes (byte % 16) low
+    go (suc (suc zero)) g = lt-leb processes (byte % 16) low
+    go (suc (suc (suc n))) g = absurd (omega arith)
+lawful-not-bad processes byte (of-all high low) = rw (high, low) refl
+
 -- of a row: no field is faulty
 pub no-bad-field : (h : Header) (f : List ℕ) (start k : ℕ) → badFieldIn h f start k ≡ Nowhere → (x : Field) → badIn h f start k x ≡ false
 no-bad-field h f start k e x =
@@ -171,3 +182,14 @@ lawful f room h e =
       log-room = ltb-false (room .log) (5 * h .steps) (whole-clear (ltb (room .log) (5 * h .steps)) (d .1 .1 .0));
       answers-room = ltb-false (room .answers) (5 * h .steps) (whole-clear (ltb (room .answers) (5 * h .steps)) (d .1 .1 .1 .0));
     }
+
+-- a file that is accepted with some buffers is accepted with any others that have room
+pub with-room : (f : List ℕ) (room other : Room) (h : Header) → refusalOf f room ≡ Accepted h
+    → h .words ≤ other .words → 5 * h .steps ≤ other .log → 5 * h .steps ≤ other .answers → refusalOf f other ≡ Accepted h
+unfolding refusalOf
+with-room f room other h e words log answers =
+    let g = headerIn f in
+    let a = accepts (found g f room) g inOrder h e in
+    let c = clear-parts (found g f room) fileChecks roomChecks (a .1) .0 in
+    passes (found g f other) g fileChecks roomChecks g (accepted (found g f other) g fileChecks c)
+    ∙ rw (a .0, le-ltb (other .words) (h .words) words, le-ltb (other .log) (5 * h .steps) log, le-ltb (other .answers) (5 * h .steps) answers) refl

@@ -11,7 +11,8 @@ use lib.Seq.{ext-getD}
 use borrow.Author.Tests.{ltb-true, ltb-false, eqb-true, eqb-false, le-ltb}
 use Rattle.runfile.specs.declared.Row.{Row}
 use Rattle.runfile.specs.Layout.{byteAt}
-use Rattle.runfile.specs.Operations.{first, count}
+use Rattle.runfile.specs.Operations.{rowsFrom, first, count}
+use Rattle.runfile.specs.OperationLaws.{length-rowsFrom}
 
 -- a table of n rows, each of a process below sixteen
 pub record Lined (table : List ℕ) (n : ℕ) : Type 0 where
@@ -83,3 +84,16 @@ pub sums-are : (rows : List Row) (counts : List ℕ) → Counted rows counts →
 unfolding sumTo
 sums-are rows counts c zero h = sym (none-below rows)
 sums-are rows counts c (suc p) h = rw (sums-are rows counts c p (omega arith), c .each p (omega arith), first-suc rows p)
+
+-- number p of the table of sums
+pub first-at : (rows : List Row) (counts firsts : List ℕ) → Counted rows counts → Summed counts firsts → (p : ℕ) → p < 16 → getD firsts p 0 ≡ first rows p
+first-at rows counts firsts c s p h = s .each p h ∙ sums-are rows counts c p (omega arith)
+
+-- all the rows of a table, which are few
+pub sum-fits : (table : List ℕ) (n : ℕ) (counts : List ℕ) → n ≤ 512 → Counted (rowsFrom table 0 n) counts → sumTo counts 16 < 65536
+sum-fits table n counts few c =
+    let rows = rowsFrom table 0 n in
+    let e = sums-are rows counts c 16 (omega arith) in
+    let f = first-fits rows 16 in
+    let g = length-rowsFrom table 0 n in
+    omega arith

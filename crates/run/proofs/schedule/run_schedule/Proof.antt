@@ -13,7 +13,7 @@ use Rattle.runfile.specs.declared.Row.{Row}
 use Rattle.runfile.specs.Actions.{step, crash, wake, none, actionOf, action, named}
 use Rattle.runfile.specs.Operations.{rowsFrom, rowNumbered, first, count}
 use Rattle.runfile.specs.OperationLaws.{length-rowsFrom}
-use Rattle.runfile.specs.Lines.{Counted, sums-are, first-fits, last-fits}
+use Rattle.runfile.specs.Lines.{Counted, last-fits, first-at, sum-fits}
 use Rattle.machine.specs.declared.Process.{Process}
 use Rattle.runfile.specs.Layout.{rowAt}
 use Rattle.machine.specs.declared.Answer.the-variants.{False}
@@ -76,7 +76,7 @@ counts-are : (l : tie.At-loop Inv-loop μ-loop) → getD (l .before .before .bef
 counts-are l = counted l .each (me l) (omega arith)
 
 firsts-are : (l : tie.At-loop Inv-loop μ-loop) → getD (l .before .before .firsts-of .result) (me l) 0 ≡ first (rows l) (me l)
-firsts-are l = l .before .before .firsts-of .ensures .each (me l) (omega arith) ∙ sums-are (rows l) _ (counted l) (me l) (omega arith)
+firsts-are l = first-at (rows l) _ _ (counted l) (l .before .before .firsts-of .ensures) (me l) (omega arith)
 
 -- a row of the file is in reach
 reach : (l : tie.At-loop Inv-loop μ-loop) (k : ℕ) → k < n l → Reach (table l) k (l .loop .words)
@@ -169,14 +169,9 @@ counts-of-requires : tie.Need-counts-of-requires Inv-loop μ-loop
 counts-of-requires c κs = search needs
 
 firsts-of-requires : tie.Need-firsts-of-requires Inv-loop μ-loop
-firsts-of-requires c κs = let k = c in
-    let s = k .before .before .before .before .before .before in
-    let rs = rowsFrom (now (s .args .table)) 0 (s .args .n) in
-    let e = sums-are rs (k .counts-of .result) (k .counts-of .ensures) 16 (omega arith) in
-    let f = first-fits rs 16 in
-    let g = length-rowsFrom (now (s .args .table)) 0 (s .args .n) in
-    let d = s .pre .lined .few in
-    omega arith
+firsts-of-requires c κs =
+    let s = c .before .before .before .before .before .before in
+    sum-fits (now (s .args .table)) (s .args .n) (c .counts-of .result) (s .pre .lined .few) (c .counts-of .ensures)
 
 fresh-requires : tie.Need-fresh-requires Inv-loop μ-loop
 fresh-requires c κs = search needs
