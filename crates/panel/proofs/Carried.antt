@@ -1,15 +1,15 @@
 -- What the code did to the table of sixteen and to the buffers is what the machine does to the first P records: a step of a process below P,
 -- and a crash or a wake.
 -- Assumes nothing.
-use Prim.Native.Nat.{ℕ, zero, suc, _*_, _/_, _%_, _≤_, _<_}
+use Prim.Native.Nat.{ℕ, _*_, _/_, _%_, _≤_, _<_}
 use mathlib.Core.Path.{_≡_, refl, sym, _∙_, ap, ap₂, subst}
-use mathlib.Core.List.{List, [], _∷_, _++_}
+use mathlib.Core.List.{List, _++_}
 use mathlib.Core.Logic.{_⊎_, inl, inr}
 use native.Mathlib.Omega.{arith}
 use mathlib.Core.Bool.{Bool, true, false, cond}
 use lib.Dec.{eqb}
 use borrow.Author.Tests.{eqb-true}
-use lib.ListN.{length, getD, set, take, drop, take-append-drop}
+use lib.ListN.{length, getD, take, drop, take-append-drop}
 use lib.Seq.{getD-take}
 use Rattle.runfile.specs.declared.Header.{Header}
 use Rattle.runfile.specs.Actions.{Action, actionOf, step as steps, crash as crashes, wake as wakes, crashAll as crashesAll, none as idles, action, named}
@@ -19,26 +19,16 @@ use Rattle.rows.specs.Buffers.{rowsOf, flat, infront}
 use Rattle.rows.specs.BufferLaws.{length-rowsOf, rows-same}
 use Rattle.machine.specs.declared.Process.{Process}
 use Rattle.machine.specs.Records.{fresh, nobody, crashed, waked}
+use Rattle.machine.specs.Laws.{getD-either}
+use Rattle.machine.specs.OneByte.{only-steps}
 use Rattle.machine.specs.Machine.{turn, apply, applied, procAt, act, step}
 use Rattle.panel.specs.declared.Outcome.the-variants.{Went}
+use Rattle.panel.specs.Frame.{set-front}
 use Rattle.panel.specs.Press.{Pressing, Lent, stateOf, stepped, Leaves, carried, steppedIn, others, othersAs}
-
--- one of the first P is changed
-pub set-front : (ps : List Process) (P p : ℕ) (x : Process) → p < P → set (take P ps) p x ++ drop P ps ≡ set ps p x
-set-front [] zero p x h = refl
-set-front [] (suc P) p x h = refl
-set-front (q ∷ ps) zero p x h = absurd (omega arith)
-set-front (q ∷ ps) (suc P) zero x h = ap (λ l. x ∷ l) (take-append-drop P ps)
-set-front (q ∷ ps) (suc P) (suc p) x h = ap (λ l. q ∷ l) (set-front ps P p x (omega arith))
-
-getD-there : (l : List Process) (i : ℕ) (d e : Process) → i < length l → getD l i d ≡ getD l i e
-getD-there [] i d e h = absurd (omega arith)
-getD-there (x ∷ l) zero d e h = refl
-getD-there (x ∷ l) (suc i) d e h = getD-there l i d e (omega arith)
 
 -- the record that is named
 named-is : (ps : List Process) (P p : ℕ) → p < P → P ≤ length ps → getD (take P ps) p fresh ≡ getD ps p nobody
-named-is ps P p h g = getD-take P ps p fresh h ∙ getD-there ps p fresh nobody (omega arith)
+named-is ps P p h g = getD-take P ps p fresh h ∙ getD-either ps p fresh nobody (omega arith)
 
 module _ (h : Header) (f : List ℕ) (k : Pressing) (l : Lent) (all : h .processes ≤ length (l .processes))
     (log-room : k .logRows * 5 ≤ length (l .log)) (answers-room : k .answerRows * 5 ≤ length (l .answers)) where
@@ -69,16 +59,6 @@ module _ (h : Header) (f : List ℕ) (k : Pressing) (l : Lent) (all : h .process
   others-are crashesAll p n here = refl
   others-are idles p n here = take-append-drop (h .processes) (l .processes)
 
-  -- whatever the action is, if it is no step, words and rows are as they were
-  quiet-act : (a : Action) (p : ℕ) → (a ≡ steps → ⊥) → let s = act (tableOf h f) (k .position) a p (stateOf (h .processes) k l) in
-      (s .words ≡ l .words) × (s .log ≡ rowsOf (k .logRows) (l .log)) × (s .answers ≡ rowsOf (k .answerRows) (l .answers))
-  unfolding stateOf act applied apply
-  quiet-act steps p n = absurd (n refl)
-  quiet-act crashes p n = (refl, refl, refl)
-  quiet-act wakes p n = (refl, refl, refl)
-  quiet-act crashesAll p n = (refl, refl, refl)
-  quiet-act idles p n = (refl, refl, refl)
-
   -- the byte names a process below P, or is a crash of all
   which : LawfulByte (h .processes) (k .byte) → (named (k .byte) < h .processes) ⊎ ((action (k .byte) ≡ crashes → ⊥) × (action (k .byte) ≡ wakes → ⊥))
   which (of-one high low) = inl low
@@ -105,13 +85,13 @@ module _ (h : Header) (f : List ℕ) (k : Pressing) (l : Lent) (all : h .process
 
   pub other-is : 16 ≤ k .byte → LawfulByte (h .processes) (k .byte) → (t : List Process) → t ≡ others (h .processes) (k .byte) (l .processes)
       → Leaves (carried h f k l) (Went (k .logRows) (k .answerRows)) t (l .words) (l .log) (l .answers)
-  unfolding stepped step
+  unfolding stepped stateOf step
   other-is g w t e =
-      let q = quiet-act (action (k .byte)) (named (k .byte)) (no-step g) in
+      let q = only-steps (tableOf h f) (k .position) (k .byte) (stateOf (h .processes) k l) (no-step g) in
       record {
-        result = ap₂ Went (sym (ap length (q .1) ∙ length-rowsOf (k .logRows) (l .log))) (sym (ap length (q .2) ∙ length-rowsOf (k .answerRows) (l .answers)));
+        result = ap₂ Went (sym (ap length (q .log) ∙ length-rowsOf (k .logRows) (l .log))) (sym (ap length (q .answers) ∙ length-rowsOf (k .answerRows) (l .answers)));
         processes-are = e ∙ sym (others-are (action (k .byte)) (named (k .byte)) (no-step g) (which w));
-        words-are = sym (q .0);
-        log-is = sym (ap (λ es. infront (flat es) (l .log)) (q .1) ∙ same-log);
-        answers-are = sym (ap (λ es. infront (flat es) (l .answers)) (q .2) ∙ same-answers);
+        words-are = sym (q .words);
+        log-is = sym (ap (λ es. infront (flat es) (l .log)) (q .log) ∙ same-log);
+        answers-are = sym (ap (λ es. infront (flat es) (l .answers)) (q .answers) ∙ same-answers);
       }

@@ -1,10 +1,10 @@
 pub mod Tests
 pub mod Laying
+pub mod Table
 pub mod Joined
 pub mod Ors
 pub mod Search
 pub mod Effects
 pub mod Put
-pub mod Fits
 pub mod Carried
 pub mod Whole

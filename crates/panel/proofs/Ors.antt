@@ -1,8 +1,6 @@
 -- A chain of tests that returns at the first that holds is the tests joined by "or".
 -- Assumes nothing.
-use Prim.Native.Nat.{ℕ}
 use mathlib.Core.Path.{_≡_}
-use native.Mathlib.Omega.{arith}
 use mathlib.Core.Bool.{Bool, true, false, _||_}
 
 pub or-hit : (a b : Bool) → a ≡ true → true ≡ (a || b)
@@ -10,6 +8,3 @@ or-hit a b e = rw e
 
 pub or-miss : (a b c : Bool) → a ≡ false → c ≡ b → c ≡ (a || b)
 or-miss a b c e f = rw (e, f)
-
-pub different : true ≡ false → ⊥
-different h = let z : _≡_ {A = ℕ} 0 1 = cc in omega arith

@@ -19,7 +19,7 @@ use Rattle.panel.specs.declared.Verdict.the-variants.{Fine, Not}
 use Rattle.panel.specs.declared.Why.{Why}
 use Rattle.panel.specs.Carry.{StepIn}
 use Rattle.panel.specs.Press.{Pressing, Lent, ample, pressing, lent, verdictOf, Fit, Leaves, carried, steppedIn, others, pressed}
-use Rattle.panel.proofs.Fits.{each-possible, sane-of}
+use Rattle.panel.specs.Fits.{each-possible, sane-of}
 use Rattle.panel.proofs.Carried.{step-is, other-is}
 
 module _ (h : Header) (f : List ℕ) (k : Pressing) (l : Lent) (ft : Fit h f k l) where

@@ -1,8 +1,8 @@
 -- What holds of a key that is not refused: each test of the verdict has failed; and a record that can be is sane, so that it is able to step.
 -- Assumes nothing.
 use Prim.Native.Nat.{ℕ, zero, suc, _+_, _*_, _≤_, _<_}
-use mathlib.Core.Path.{_≡_, refl, subst}
-use mathlib.Core.Bool.{Bool, true, false, cond, not, _||_}
+use mathlib.Core.Path.{_≡_, refl, _∙_, ap, subst}
+use mathlib.Core.Bool.{Bool, true, false, cond, not, _||_, true≢false}
 use mathlib.Core.List.{List}
 use native.Mathlib.Omega.{arith}
 use lib.Dec.{eqb, ltb}
@@ -15,7 +15,7 @@ use Rattle.runfile.specs.declared.Checked.{Checked}
 use Rattle.runfile.specs.declared.Checked.the-variants as checked
 use Rattle.runfile.specs.Operations.{tableOf, first, count}
 use Rattle.runfile.specs.Refusals.{badByte, refusalOf}
-use Rattle.runfile.specs.Lawful.{lawful}
+use Rattle.runfile.specs.Lawful.{lawful, neither}
 use Rattle.runfile.specs.Lines.{last-fits}
 use Rattle.machine.specs.declared.Process.{Process}
 use Rattle.machine.specs.declared.Opened.{Opened}
@@ -29,9 +29,8 @@ use Rattle.panel.specs.declared.Verdict.the-variants.{Fine, Not}
 use Rattle.panel.specs.declared.Why.{Why}
 use Rattle.panel.specs.Possible.{tooMany, notLast, openWhile, noneAt, noneLeft, misplaced, impossible, anyImpossible}
 use Rattle.panel.specs.Press.{Pressing, Lent, ample, andThen, roomy, sound, judged, judgedAs, verdictOf, Fit}
-use Rattle.panel.proofs.Ors.{different}
 
-not-fine : {why : Why} {at : ℕ} {h : Header} → Not why at ≡ Fine h → ⊥
+pub not-fine : {why : Why} {at : ℕ} {h : Header} → Not why at ≡ Fine h → ⊥
 not-fine e = let z : _≡_ {A = ℕ} 0 1 = cc in omega arith
 
 same-header : {g h : Header} → Fine g ≡ Fine h → g ≡ h
@@ -46,36 +45,57 @@ both-fine : (v next : Verdict) (h : Header) → andThen v next ≡ Fine h → ((
 both-fine (Not why at) next h e = absurd (not-fine e)
 both-fine (Fine g) next h e = ((g, refl), e)
 
-pub fit : (f : List ℕ) (n : ℕ) (k : Pressing) (l : Lent) (h : Header) → verdictOf f n k l ≡ Fine h → Fit h f k l
-unfolding verdictOf judged
-fit f n k l h e = go (refusalOf f ample) refl e
-  where
-    go : (c : Checked) → refusalOf f ample ≡ c → judgedAs c f n k l ≡ Fine h → Fit h f k l
-    go (checked.Refused why place) q e = absurd (not-fine e)
-    go (checked.Accepted g) q e =
-        let b = both-fine (roomy g n k l) (sound g f (l .processes) (k .byte) (k .position)) h e in
-        let r = b .0 .1 in
-        let r1 = passed (ltb (length (l .words)) (g .words)) _ _ _ _ r in
-        let r2 = passed (ltb n (g .processes)) _ _ _ _ (r1 .1) in
-        let r3 = passed (ltb (length (l .log)) (k .logRows * 5 + 5)) _ _ _ _ (r2 .1) in
-        let r4 = passed (ltb (length (l .answers)) (k .answerRows * 5 + 5)) _ _ _ _ (r3 .1) in
-        let s1 = passed (ltb 1023 (k .position)) _ _ _ _ (b .1) in
-        let s2 = passed (anyImpossible (tableOf g f) (l .processes) 0 (g .processes)) _ _ _ _ (s1 .1) in
-        let s3 = passed (badByte (g .processes) (k .byte)) _ _ _ _ (s2 .1) in
-        subst (λ h. Fit h f k l) (same-header (s3 .1))
-        (record {
-          lawful = lawful f ample g q;
-          words-room = ltb-false (length (l .words)) (g .words) (r1 .0);
-          log-room = ltb-false (length (l .log)) (k .logRows * 5 + 5) (r3 .0);
-          answers-room = ltb-false (length (l .answers)) (k .answerRows * 5 + 5) (r4 .0);
-          early = ltb-false 1023 (k .position) (s1 .0);
-          possible = s2 .0;
-          action = s3 .0;
-        })
+-- each test of 13 to 22, by which a key over a file with this header is not refused
+record Unrefused (h : Header) (f : List ℕ) (n : ℕ) (k : Pressing) (l : Lent) : Type 0 where
+  words : ltb (length (l .words)) (h .words) ≡ false
+  records : ltb n (h .processes) ≡ false
+  log : ltb (length (l .log)) (k .logRows * 5 + 5) ≡ false
+  answers : ltb (length (l .answers)) (k .answerRows * 5 + 5) ≡ false
+  position : ltb 1023 (k .position) ≡ false
+  possible : anyImpossible (tableOf h f) (l .processes) 0 (h .processes) ≡ false
+  byte : badByte (h .processes) (k .byte) ≡ false
 
-neither : (a b : Bool) → (a || b) ≡ false → (a ≡ false) × (b ≡ false)
-neither true b e = absurd (different e)
-neither false b e = (refl, e)
+unrefused : (g : Header) (f : List ℕ) (n : ℕ) (k : Pressing) (l : Lent) (h : Header) → judged g f n k l ≡ Fine h → (g ≡ h) × Unrefused g f n k l
+unfolding judged
+unrefused g f n k l h e =
+    let b = both-fine (roomy g n k l) (sound g f (l .processes) (k .byte) (k .position)) h e in
+    let r1 = passed (ltb (length (l .words)) (g .words)) _ _ _ _ (b .0 .1) in
+    let r2 = passed (ltb n (g .processes)) _ _ _ _ (r1 .1) in
+    let r3 = passed (ltb (length (l .log)) (k .logRows * 5 + 5)) _ _ _ _ (r2 .1) in
+    let r4 = passed (ltb (length (l .answers)) (k .answerRows * 5 + 5)) _ _ _ _ (r3 .1) in
+    let s1 = passed (ltb 1023 (k .position)) _ _ _ _ (b .1) in
+    let s2 = passed (anyImpossible (tableOf g f) (l .processes) 0 (g .processes)) _ _ _ _ (s1 .1) in
+    let s3 = passed (badByte (g .processes) (k .byte)) _ _ _ _ (s2 .1) in
+    (same-header (s3 .1), record { words = r1 .0; records = r2 .0; log = r3 .0; answers = r4 .0; position = s1 .0; possible = s2 .0; byte = s3 .0 })
+
+-- the list of records is long enough
+pub list-room : (g : Header) (f : List ℕ) (n : ℕ) (k : Pressing) (l : Lent) (h : Header) → judged g f n k l ≡ Fine h → h .processes ≤ n
+list-room g f n k l h e = let u = unrefused g f n k l h e in subst (λ h. h .processes ≤ n) (u .0) (ltb-false n (g .processes) (u .1 .records))
+
+module _ (f : List ℕ) (n : ℕ) (k : Pressing) (l : Lent) (h : Header) (e : verdictOf f n k l ≡ Fine h) where
+  -- the file is accepted
+  pub fine-file : (refusalOf f ample ≡ checked.Accepted h) × (h .processes ≤ n)
+  unfolding verdictOf
+  fine-file = go (refusalOf f ample) refl e
+    where
+      go : (c : Checked) → refusalOf f ample ≡ c → judgedAs c f n k l ≡ Fine h → (refusalOf f ample ≡ checked.Accepted h) × (h .processes ≤ n)
+      go (checked.Refused why place) q e = absurd (not-fine e)
+      go (checked.Accepted g) q e = (q ∙ ap checked.Accepted (unrefused g f n k l h e .0), list-room g f n k l h e)
+
+  pub fit : Fit h f k l
+  unfolding verdictOf
+  fit =
+      let accepted = fine-file .0 in
+      let u = unrefused h f n k l h (subst (λ c. judgedAs c f n k l ≡ Fine h) accepted e) .1 in
+      record {
+        lawful = lawful f ample h accepted;
+        words-room = ltb-false (length (l .words)) (h .words) (u .words);
+        log-room = ltb-false (length (l .log)) (k .logRows * 5 + 5) (u .log);
+        answers-room = ltb-false (length (l .answers)) (k .answerRows * 5 + 5) (u .answers);
+        early = ltb-false 1023 (k .position) (u .position);
+        possible = u .possible;
+        action = u .byte;
+      }
 
 -- each of the records can be
 pub each-possible : (rows : List Row) (ps : List Process) (from n p : ℕ) → anyImpossible rows ps from n ≡ false → from ≤ p → p < from + n → impossible rows p (getD ps p nobody) ≡ false
@@ -115,7 +135,7 @@ sane-of rows p r e =
     at-work Idle o q h = tt
     at-work N2 o q h = tt
     at-work N3 o q h = tt
-    at-work (Busy stage seen readAt triedAt answer) Closed q h = absurd (different h)
+    at-work (Busy stage seen readAt triedAt answer) Closed q h = absurd (true≢false h)
     at-work (Busy stage seen readAt triedAt answer) (Open k) q h = (k, q)
 
     left : (st : Status) → noneLeft (count rows p) (r .begun) st ≡ false → Announcing st → r .begun < count rows p

@@ -3,4 +3,9 @@ pub mod Possible
 pub mod Carry
 pub mod Press
 pub mod Key
+pub mod Lives
+pub mod Fits
+pub mod Longer
 pub mod Only
+pub mod Through
+pub mod Frame

@@ -51,12 +51,13 @@ fn step_in(
     let mut next = processes;
     let moved = stepped.process;
     next[at] = moved;
+    let outcome = Outcome::Went {
+        log: stepped.log,
+        answers: stepped.answers,
+    };
     After {
         processes: next,
-        outcome: Outcome::Went {
-            log: stepped.log,
-            answers: stepped.answers,
-        },
+        outcome,
     }
 }
 

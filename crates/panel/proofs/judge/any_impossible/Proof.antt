@@ -9,7 +9,7 @@ use Rattle.runfile.specs.declared.Row.{Row}
 use denote.Ref.{now}
 use Rattle.runfile.specs.Operations.{rowsFrom, first, count}
 use Rattle.runfile.specs.OperationLaws.{length-rowsFrom}
-use Rattle.runfile.specs.Lines.{first-fits, last-fits, sums-are}
+use Rattle.runfile.specs.Lines.{last-fits, first-at, sum-fits}
 use Rattle.machine.specs.Records.{nobody}
 use Rattle.panel.specs.Possible.{impossible, anyImpossible}
 use Rattle.panel.proofs.Ors.{or-hit, or-miss}
@@ -37,7 +37,7 @@ counts-are : (l : tie.At-loop Inv-loop μ-loop) → l .loop .p < 16 → getD (l 
 counts-are l h = l .before .before .counts-of .ensures .each (l .loop .p) h
 
 firsts-are : (l : tie.At-loop Inv-loop μ-loop) → l .loop .p < 16 → getD (l .before .firsts-of .result) (l .loop .p) 0 ≡ first (rowsAt l) (l .loop .p)
-firsts-are l h = l .before .firsts-of .ensures .each (l .loop .p) h ∙ sums-are (rowsAt l) _ (l .before .before .counts-of .ensures) (l .loop .p) (omega arith)
+firsts-are l h = first-at (rowsAt l) _ _ (l .before .before .counts-of .ensures) (l .before .firsts-of .ensures) (l .loop .p) h
 
 low : (c : tie.After-process Inv-loop μ-loop) → c .before .before .loop .p < 16
 low c = let i = c .before .loop-test .taken in let w = c .before .before .before .before .before .before .pre .0 in omega arith
@@ -53,13 +53,9 @@ counts-of-requires c κs = c .before .pre .1
 
 -- src/judge.rt:47:18
 firsts-of-requires : tie.Need-firsts-of-requires Inv-loop μ-loop
-firsts-of-requires c κs = let st = c .before .before in
-    let rs = rowsFrom (now (st .args .table)) 0 (st .args .n) in
-    let e = sums-are rs (c .counts-of .result) (c .counts-of .ensures) 16 (omega arith) in
-    let f = first-fits rs 16 in
-    let g = length-rowsFrom (now (st .args .table)) 0 (st .args .n) in
-    let d = st .pre .1 .few in
-    omega arith
+firsts-of-requires c κs =
+    let st = c .before .before in
+    sum-fits (now (st .args .table)) (st .args .n) (c .counts-of .result) (st .pre .1 .few) (c .counts-of .ensures)
 
 -- src/judge.rt:49:5
 loop-holds : tie.Need-loop-holds Inv-loop μ-loop

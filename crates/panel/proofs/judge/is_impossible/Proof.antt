@@ -2,7 +2,7 @@
 -- Assumes nothing.
 use Prim.Native.Nat.{ℕ, _+_, _*_, _≤_, _<_}
 use mathlib.Core.Path.{_≡_, refl, sym, _∙_, ap}
-use mathlib.Core.Bool.{Bool, true, false, not, _||_}
+use mathlib.Core.Bool.{Bool, true, false, not, _||_, true≢false}
 use native.Mathlib.Omega.{arith}
 use lib.Dec.{eqb, ltb}
 use borrow.Author.Tests.{eqb-true, ltb-false}
@@ -14,7 +14,7 @@ use Rattle.run.specs.Turns.{row-is}
 use Rattle.machine.specs.declared.Process.{Process}
 use Rattle.machine.specs.declared.Opened.the-variants.{Nothing as Closed, Row as Open}
 use Rattle.panel.specs.Possible.{misplaced, misdone}
-use Rattle.panel.proofs.Ors.{or-hit, or-miss, different}
+use Rattle.panel.proofs.Ors.{or-hit, or-miss}
 use borrow.Author.Needs.{needs}
 use Rattle.panel.proofs.judge.is_impossible.Statement.{statement}
 use Rattle.panel.proofs.judge.is_impossible.Tie as tie
@@ -32,9 +32,9 @@ inside first count r k o h = go (ltb count (r .begun)) refl (eqb (r .begun) 0) r
   where
     go : (a : Bool) → ltb count (r .begun) ≡ a → (b : Bool) → eqb (r .begun) 0 ≡ b → (d : Bool) → eqb (k + 1) (first + r .begun) ≡ d
         → (z : Bool) → (a || ((b || not d) || z)) ≡ false → k < first + count
-    go true x b y d w z e = absurd (different e)
-    go false x true y d w z e = absurd (different e)
-    go false x false y false w z e = absurd (different e)
+    go true x b y d w z e = absurd (true≢false e)
+    go false x true y d w z e = absurd (true≢false e)
+    go false x false y false w z e = absurd (true≢false e)
     go false x false y true w z e = let m : r .begun ≤ count = ltb-false count (r .begun) x in let q : k + 1 ≡ first + r .begun = eqb-true (k + 1) (first + r .begun) w in omega arith
 
 -- with no row open the kind makes no difference

@@ -7,7 +7,7 @@ use lib.ListN.{length}
 use denote.Ref.{now}
 use Rattle.panel.specs.declared.Verdict.the-variants.{Fine}
 use Rattle.panel.specs.Press.{pressing, lent, verdictOf, Fit}
-use Rattle.panel.proofs.Fits.{fit}
+use Rattle.panel.specs.Fits.{fit}
 use Rattle.panel.proofs.Whole.{able-in, a-step, another, was-refused, was-fine}
 use borrow.Author.Needs.{needs}
 use Rattle.panel.proofs.press.press.Statement.{statement}

@@ -5,8 +5,7 @@ use native.Mathlib.Omega.{arith}
 use lib.ListN.{getD}
 use denote.Ref.{now}
 use Rattle.runfile.specs.Operations.{rowsFrom, first, count}
-use Rattle.runfile.specs.OperationLaws.{length-rowsFrom}
-use Rattle.runfile.specs.Lines.{first-fits, sums-are}
+use Rattle.runfile.specs.Lines.{first-at, sum-fits}
 use Rattle.panel.proofs.Put.{put-back, steps-there}
 use borrow.Author.Needs.{needs}
 use Rattle.panel.proofs.press.step_in.Statement.{statement}
@@ -26,7 +25,7 @@ firsts-are : (c : tie.After-index8) → let b = c .before .before .before .befor
 firsts-are c =
     let st = c .before .before .before .before .before .before .before in
     let p = st .pre .present in
-    c .before .firsts-of .ensures .each (st .args .me) p ∙ sums-are (rowsFrom (now (st .args .table)) 0 (st .args .n)) _ (c .before .before .counts-of .ensures) (st .args .me) (omega arith)
+    first-at (rowsFrom (now (st .args .table)) 0 (st .args .n)) _ _ (c .before .before .counts-of .ensures) (c .before .firsts-of .ensures) (st .args .me) p
 
 -- src/press.rt:33:18
 counts-of-requires : tie.Need-counts-of-requires
@@ -34,13 +33,9 @@ counts-of-requires c κs = search needs
 
 -- src/press.rt:34:18
 firsts-of-requires : tie.Need-firsts-of-requires
-firsts-of-requires c κs = let st = c .before .before .before .before .before in
-    let rs = rowsFrom (now (st .args .table)) 0 (st .args .n) in
-    let e = sums-are rs (c .counts-of .result) (c .counts-of .ensures) 16 (omega arith) in
-    let f = first-fits rs 16 in
-    let g = length-rowsFrom (now (st .args .table)) 0 (st .args .n) in
-    let d = st .pre .lined .few in
-    omega arith
+firsts-of-requires c κs =
+    let st = c .before .before .before .before .before in
+    sum-fits (now (st .args .table)) (st .args .n) (c .counts-of .result) (st .pre .lined .few) (c .counts-of .ensures)
 
 -- src/press.rt:35:9
 index8-requires : tie.Need-index8-requires

@@ -1,0 +1,151 @@
+-- `key` takes the lent records into a table of sixteen, presses the key there and lays the table back. What comes of it is what a key comes to
+-- over the list itself, however long the list is: no file has more than sixteen processes, and a byte looks at the first P records alone.
+-- Assumes nothing.
+use Prim.Native.Nat.{ℕ, zero, suc, _+_, _≤_, _<_, min}
+use mathlib.Core.Path.{_≡_, refl, _∙_, ap}
+use mathlib.Core.Bool.{Bool, true, false, cond}
+use mathlib.Core.List.{List, [], _∷_, _++_}
+use native.Mathlib.Omega.{arith}
+use lib.Dec.{ltb}
+use lib.ListN.{length, take, drop, getD, take-append-drop, List·getD-append}
+use lib.Seq.{length-take-le, take-at, take-take, take-append-le, getD-take}
+use borrow.Author.Tests.{ltb-true, ltb-false, lt-ltb, le-ltb}
+use Rattle.runfile.specs.declared.Header.{Header}
+use Rattle.runfile.specs.declared.Row.{Row}
+use Rattle.runfile.specs.declared.Checked.{Checked}
+use Rattle.runfile.specs.declared.Checked.the-variants as checked
+use Rattle.runfile.specs.Operations.{tableOf}
+use Rattle.runfile.specs.Refusals.{refusalOf}
+use Rattle.runfile.specs.Lawful.{lawful}
+use Rattle.machine.specs.declared.Process.{Process}
+use Rattle.rows.specs.Buffers.{rowsOf, flat, infront}
+use Rattle.machine.specs.Records.{nobody}
+use Rattle.machine.specs.Machine.{step}
+use Rattle.panel.specs.declared.Verdict.{Verdict}
+use Rattle.panel.specs.declared.Verdict.the-variants.{Fine, Not}
+use Rattle.panel.specs.declared.Why.the-variants.{File, Words}
+use Rattle.panel.specs.declared.Outcome.the-variants.{Went, Refused}
+use Rattle.panel.specs.Fits.{not-fine, list-room}
+use Rattle.panel.specs.Longer.{grows}
+use Rattle.panel.specs.Laid.{blank, laid}
+use Rattle.panel.specs.Possible.{anyImpossible}
+use Rattle.panel.specs.Press.{Pressing, Lent, pressing, lent, ample, sound, andThen, judged, judgedAs, verdictOf, stateOf, stepped, Pressed, pressedAs, pressed}
+use Rattle.panel.specs.Key.{keyed}
+
+-- with the first n of the table laid back into the list
+abbrev pub givenBack : ℕ → List Process → Pressed → Pressed
+givenBack n records p = record { outcome = p .outcome; processes = laid n (p .processes) records; words = p .words; log = p .log; answers = p .answers }
+
+-- a front part that is made another one, in a table that is laid back into the list
+front-back : (records rest front : List Process) (n : ℕ) → n ≤ length records → length front ≤ n → take n (front ++ drop (length front) (take n records ++ rest)) ++ drop n records ≡ front ++ drop (length front) records
+front-back records rest [] n fits few =
+    ap (λ l. l ++ drop n records) (take-at (take n records) rest n (length-take-le n records fits)) ∙ take-append-drop n records
+front-back [] rest (x ∷ front) zero fits few = absurd (omega arith)
+front-back [] rest (x ∷ front) (suc n) fits few = absurd (omega arith)
+front-back (r ∷ records) rest (x ∷ front) zero fits few = absurd (omega arith)
+front-back (r ∷ records) rest (x ∷ front) (suc n) fits few = ap (λ l. x ∷ l) (front-back records rest front n (omega arith) (omega arith))
+
+module _ (records over : List Process) (n : ℕ) (fits : n ≤ length records) where
+  -- the first of the table are the list's
+  take-laid : (m : ℕ) → m ≤ n → take m (laid n records over) ≡ take m records
+  unfolding laid
+  take-laid m h = take-append-le m (take n records) (drop n over) (rw (length-take-le n records fits) h) ∙ take-take m n records h
+
+  getD-laid : (i : ℕ) (d : Process) → i < n → getD (laid n records over) i d ≡ getD records i d
+  unfolding laid
+  getD-laid i d h = List·getD-append (take n records) (drop n over) d i (rw (length-take-le n records fits) h) ∙ getD-take n records i d h
+
+  -- laid back, the table leaves the list as it was, but for a front part that is made another one
+  laid-front : (front : List Process) (m : ℕ) → length front ≡ m → m ≤ n → laid n (front ++ drop m (laid n records over)) records ≡ front ++ drop m records
+  unfolding laid
+  laid-front front m e h = rw (← e) (front-back records (drop n over) front n fits (rw e h))
+
+  laid-same : laid n (laid n records over) records ≡ records
+  unfolding laid
+  laid-same = laid-front [] 0 refl (omega arith)
+
+  any-laid : (rows : List Row) (from m : ℕ) → from + m ≤ n → anyImpossible rows (laid n records over) from m ≡ anyImpossible rows records from m
+  unfolding anyImpossible
+  any-laid rows from zero h = refl
+  any-laid rows from (suc m) h = rw (getD-laid from nobody (omega arith), any-laid rows (suc from) m (omega arith))
+
+-- sixteen are enough
+short-alike : (n P : ℕ) → P ≤ 16 → ltb (min n 16) P ≡ ltb n P
+short-alike n P h = go (ltb n P) refl
+  where
+    go : (c : Bool) → ltb n P ≡ c → ltb (min n 16) P ≡ c
+    go true e = lt-ltb (min n 16) P (let l = ltb-true n P e in omega arith)
+    go false e = le-ltb (min n 16) P (let l = ltb-false n P e in omega arith)
+
+module _ (f : List ℕ) (records : List Process) (words log answers : List ℕ) (byte position logRows answerRows : ℕ) where
+  abbrev n : ℕ
+  n = min (length records) 16
+
+  abbrev k : Pressing
+  k = pressing byte position logRows answerRows
+
+  -- what `press` is handed: the records in the table; and what the caller lends
+  abbrev table : Lent
+  table = lent (laid n records blank) words log answers
+
+  abbrev lends : Lent
+  lends = lent records words log answers
+
+  held : n ≤ length records
+  held = omega arith
+
+  -- the verdict over the table is the verdict over the list
+  verdict-alike : (h : Header) → h .processes ≤ 16 → judged h f n k table ≡ judged h f (length records) k lends
+  unfolding judged
+  verdict-alike h few = rw (← (short-alike (length records) (h .processes) few)) (go (ltb (length words) (h .words)) (ltb n (h .processes)) refl _)
+    where
+      go : (a c : Bool) → ltb n (h .processes) ≡ c → (rest : Verdict)
+          → andThen (cond a (Not Words 0) (cond c (Not Words 0) rest)) (sound h f (laid n records blank) byte position)
+          ≡ andThen (cond a (Not Words 0) (cond c (Not Words 0) rest)) (sound h f records byte position)
+      go true c q rest = refl
+      go false true q rest = refl
+      go false false q rest = rw (any-laid records blank n held (tableOf h f) 0 (h .processes) (let l = ltb-false n (h .processes) q in omega arith)) refl
+
+  -- and so are the state that is lent and the state after the byte, of P records
+  state-alike : (h : Header) → h .processes ≤ n → stepped h f k table ≡ stepped h f k lends
+  unfolding stepped stateOf
+  state-alike h few =
+      ap (λ ps. step (tableOf h f) position byte (record { words = words; processes = ps; log = rowsOf logRows log; answers = rowsOf answerRows answers }))
+      (take-laid records blank n held (h .processes) few)
+
+  all-there : (h : Header) → h .processes ≤ n → length (stepped h f k lends .processes) ≡ h .processes
+  unfolding stepped stateOf
+  all-there h few = grows (tableOf h f) position byte (stateOf (h .processes) k lends) .processes ∙ length-take-le (h .processes) records (omega arith)
+
+  -- what is pressed over the table and laid back is what is pressed over the list
+  alike : (v : Verdict) → ((h : Header) → v ≡ Fine h → h .processes ≤ n) → givenBack n records (pressedAs v f k table) ≡ pressedAs v f k lends
+  alike (Not why place) room = ap (λ l. record { outcome = Refused why place; processes = l; words = words; log = log; answers = answers }) (laid-same records blank n held)
+  alike (Fine h) room =
+      let P = h .processes in
+      let few : P ≤ n = room h refl in
+      let same : stepped h f k table ≡ stepped h f k lends = state-alike h few in
+      let all : length (stepped h f k lends .processes) ≡ P = all-there h few in
+      ap (λ s. record {
+        outcome = Went (length (s .log)) (length (s .answers));
+        processes = laid n (s .processes ++ drop P (laid n records blank)) records;
+        words = s .words;
+        log = infront (flat (s .log)) log;
+        answers = infront (flat (s .answers)) answers;
+      }) same
+      ∙ ap (λ l. record {
+        outcome = Went (length (stepped h f k lends .log)) (length (stepped h f k lends .answers));
+        processes = l;
+        words = stepped h f k lends .words;
+        log = infront (flat (stepped h f k lends .log)) log;
+        answers = infront (flat (stepped h f k lends .answers)) answers;
+      }) (laid-front records blank n held (stepped h f k lends .processes) P all few)
+
+  -- over the table and laid back, and over the list
+  pub keyed-is : givenBack n records (pressed f n (laid n records blank) words log answers byte position logRows answerRows) ≡ keyed f records words log answers byte position logRows answerRows
+  unfolding keyed pressed verdictOf
+  keyed-is = go (refusalOf f ample) refl
+    where
+      go : (c : Checked) → refusalOf f ample ≡ c → givenBack n records (pressedAs (judgedAs c f n k table) f k table) ≡ pressedAs (judgedAs c f (length records) k lends) f k lends
+      go (checked.Refused why place) q = alike (Not (File why) place) (λ h e. absurd (not-fine e))
+      go (checked.Accepted h) q =
+          alike (judged h f n k table) (λ g e. list-room h f n k table g e) ∙ ap (λ v. pressedAs v f k lends) (verdict-alike h (lawful f ample h q .head .processes))

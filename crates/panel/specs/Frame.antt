@@ -1,0 +1,198 @@
+-- Change request 3: "the process not named left as it was unless the byte is F0"; "nothing is changed" by a refusal. What a key leaves alone, for
+-- every file, every list of records and all buffers: by what a byte leaves alone in the machine.
+-- Assumes nothing.
+use Prim.Native.Nat.{ℕ, _+_, _*_, _-_, _≤_, _<_}
+use mathlib.Core.Path.{_≡_, refl, sym, _∙_, ap, ap₂, subst}
+use mathlib.Core.Bool.{Bool, true, false}
+use mathlib.Core.List.{List, _++_}
+use mathlib.Core.Logic.{_≢_}
+use native.Mathlib.Omega.{arith}
+use lib.Dec.{ltb}
+use lib.ListN.{length, getD, set, take, drop, take-append-drop, length-append, length-drop, List·getD-append}
+use lib.Seq.{take-set-lt, drop-set-lt, drop-at, getD-take, getD-drop, getD-set-other, length-take-le}
+use borrow.Author.Tests.{ltb-true, ltb-false, leb-false}
+use Rattle.runfile.specs.declared.Header.{Header}
+use Rattle.runfile.specs.declared.Row.{Row}
+use Rattle.runfile.specs.declared.Checked.the-variants as checked
+use Rattle.runfile.specs.Actions.{Action, step as steps, crash as crashes, wake as wakes, crashAll as crashesAll, none as idles, action, named}
+use Rattle.runfile.specs.Operations.{tableOf, rowNumbered, first, count}
+use Rattle.runfile.specs.Refusals.{badAction, badByte, refusalOf}
+use Rattle.rows.specs.declared.Entry.{Entry}
+use Rattle.rows.specs.Buffers.{flat, infront}
+use Rattle.rows.specs.BufferLaws.{beyond, rows-same, length-flat, length-rowsOf}
+use Rattle.machine.specs.declared.Process.{Process}
+use Rattle.machine.specs.declared.Status.{Status}
+use Rattle.machine.specs.declared.Turn.{Turn}
+use Rattle.machine.specs.declared.Turn.the-variants.{Still, Quiet, Swaps, Logs, Loses, Replies}
+use Rattle.machine.specs.Records.{fresh, nobody, rowOpen}
+use Rattle.machine.specs.Laws.{getD-either}
+use Rattle.machine.specs.Machine.{State, effectOf, wordsAfter, turn, apply, applied, procAt, act, step}
+use Rattle.machine.specs.Steps.{stepTurn}
+use Rattle.machine.specs.OneByte as one
+use Rattle.panel.specs.declared.Outcome.the-variants.{Went, Refused}
+use Rattle.panel.specs.declared.Why.{Why}
+use Rattle.panel.specs.declared.Verdict.{Verdict}
+use Rattle.panel.specs.declared.Verdict.the-variants.{Fine, Not}
+use Rattle.panel.specs.Longer.{grows}
+use Rattle.panel.specs.Fits.{fit, fine-file}
+use Rattle.panel.specs.Press.{Pressing, Lent, pressing, lent, ample, verdictOf, stateOf, stepped, Pressed, carried, pressedAs, pressed, Fit}
+use Rattle.panel.specs.Key.{keyed}
+
+-- one of the first P is changed
+pub set-front : (ps : List Process) (P p : ℕ) (x : Process) → p < P → set (take P ps) p x ++ drop P ps ≡ set ps p x
+set-front ps P p x h = rw (← (take-set-lt P ps p x h), ← (drop-set-lt P ps p x h)) (take-append-drop P (set ps p x))
+
+-- a word that the row is not on
+word-stays : (rows : List Row) (log : List Entry) (p t k w : ℕ) (u : Turn) (words : List ℕ) (j : ℕ) → j ≢ w → getD (wordsAfter (effectOf rows log p t k w u) words) j 0 ≡ getD words j 0
+word-stays rows log p t k w Still words j n = refl
+word-stays rows log p t k w (Quiet next) words j n = refl
+word-stays rows log p t k w (Swaps next x) words j n = getD-set-other words w j x 0 n
+word-stays rows log p t k w (Logs next q a) words j n = refl
+word-stays rows log p t k w (Loses next after otherwise) words j n = refl
+word-stays rows log p t k w (Replies next said) words j n = refl
+
+turn-word : (rows : List Row) (p t : ℕ) (words : List ℕ) (log : List Entry) (r : Process) (status : Status) (j : ℕ) → j ≢ rowNumbered rows (rowOpen (r .opened)) .word
+    → getD (wordsAfter (turn rows p t words log r status .effect) words) j 0 ≡ getD words j 0
+unfolding turn
+turn-word rows p t words log r status j n =
+    let row = rowNumbered rows (rowOpen (r .opened)) in
+    word-stays rows log p t (rowOpen (r .opened)) (row .word) (stepTurn row p t (getD words (row .word) 0) (first rows p) (count rows p) r status) words j n
+
+-- what a key that is carried out leaves alone
+pub record Frame (h : Header) (f : List ℕ) (records : List Process) (words log answers : List ℕ) (byte logRows answerRows : ℕ) (p : Pressed) : Type 0 where
+  -- "the process not named left as it was unless the byte is F0"; records beyond the first P are never touched
+  pub others : (action byte ≡ crashesAll → ⊥) → (q : ℕ) → q ≢ named byte → getD (p .processes) q nobody ≡ getD records q nobody
+  pub past-P : drop (h .processes) (p .processes) ≡ drop (h .processes) records
+  pub all-records : length (p .processes) ≡ length records
+  -- a word other than that of the row on which the process named works
+  pub other-words : (w : ℕ) → w ≢ rowNumbered (tableOf h f) (rowOpen (getD records (named byte) nobody .opened)) .word → getD (p .words) w 0 ≡ getD words w 0
+  pub all-words : length (p .words) ≡ length words
+  -- numbers beyond the rows, and the answers that were there
+  pub log-beyond : (i : ℕ) → logRows * 5 + 5 ≤ i → getD (p .log) i 0 ≡ getD log i 0
+  pub answers-beyond : (i : ℕ) → answerRows * 5 + 5 ≤ i → getD (p .answers) i 0 ≡ getD answers i 0
+  -- a crash or a wake: only records change
+  pub only-steps : (action byte ≡ steps → ⊥) → (p .outcome ≡ Went logRows answerRows) × (p .words ≡ words) × (p .log ≡ log) × (p .answers ≡ answers)
+
+module _ (h : Header) (f : List ℕ) (records : List Process) (words log answers : List ℕ) (byte position logRows answerRows : ℕ) where
+  abbrev k : Pressing
+  k = pressing byte position logRows answerRows
+
+  abbrev l : Lent
+  l = lent records words log answers
+
+  abbrev s : State
+  s = stateOf (h .processes) k l
+
+  abbrev P : ℕ
+  P = h .processes
+
+  module _ (ft : Fit h f k l) (room : P ≤ length records) where
+    all-P : length (stepped h f k l .processes) ≡ P
+    unfolding stepped stateOf
+    all-P = grows (tableOf h f) position byte s .processes ∙ length-take-le P records room
+
+    past : drop P (carried h f k l .processes) ≡ drop P records
+    past = drop-at (stepped h f k l .processes) (drop P records) P all-P
+
+    other : (action byte ≡ crashesAll → ⊥) → (q : ℕ) → q ≢ named byte → getD (carried h f k l .processes) q nobody ≡ getD records q nobody
+    unfolding stepped stateOf procAt
+    other not-all q n = go (ltb q P) refl
+      where
+        among : q < P → getD (carried h f k l .processes) q nobody ≡ getD records q nobody
+        among i =
+            let j : q < length (stepped h f k l .processes) = rw all-P i in
+            List·getD-append (stepped h f k l .processes) (drop P records) nobody q j
+            ∙ getD-either (stepped h f k l .processes) q nobody fresh j
+            ∙ one.others (tableOf h f) position byte s not-all q n
+            ∙ getD-take P records q fresh i
+            ∙ getD-either records q fresh nobody (omega arith)
+
+        go : (c : Bool) → ltb q P ≡ c → getD (carried h f k l .processes) q nobody ≡ getD records q nobody
+        go true e = among (ltb-true q P e)
+        go false e =
+            let i : q ≡ P + (q - P) = (let g = ltb-false q P e in omega arith) in
+            rw i (sym (getD-drop P (carried h f k l .processes) (q - P) nobody) ∙ ap (λ ps. getD ps (q - P) nobody) past ∙ getD-drop P records (q - P) nobody)
+
+    -- a step is one of a process below P
+    steps-below : action byte ≡ steps → named byte < P
+    unfolding badByte
+    steps-below e = leb-false P (named byte) (subst (λ a. badAction P (named byte) a ≡ false) e (ft .action))
+
+    mine : named byte < P → procAt (named byte) s ≡ getD records (named byte) nobody
+    unfolding stateOf procAt
+    mine i = getD-take P records (named byte) fresh i ∙ getD-either records (named byte) fresh nobody (omega arith)
+
+    other-word : (w : ℕ) → w ≢ rowNumbered (tableOf h f) (rowOpen (getD records (named byte) nobody .opened)) .word → getD (stepped h f k l .words) w 0 ≡ getD words w 0
+    unfolding stepped stateOf step act applied apply
+    other-word w n = go (action byte) refl
+      where
+        go : (a : Action) → action byte ≡ a → getD (act (tableOf h f) position a (named byte) s .words) w 0 ≡ getD words w 0
+        go steps e =
+            turn-word (tableOf h f) (named byte) position words (s .log) (procAt (named byte) s) (procAt (named byte) s .status) w
+            (subst (λ r. w ≢ rowNumbered (tableOf h f) (rowOpen (r .opened)) .word) (sym (mine (steps-below e))) n)
+        go crashes e = refl
+        go wakes e = refl
+        go crashesAll e = refl
+        go idles e = refl
+
+    counts : (length (stepped h f k l .log) ≤ logRows + 1) × (length (stepped h f k l .answers) ≤ answerRows + 1)
+    unfolding stepped stateOf
+    counts =
+        let g = grows (tableOf h f) position byte s in
+        let a = g .log-one in
+        let b = g .answers-one in
+        let c = length-rowsOf logRows log in
+        let d = length-rowsOf answerRows answers in
+        (omega arith, omega arith)
+
+    -- words and rows after a crash or a wake
+    untouched : (action byte ≡ steps → ⊥) → (carried h f k l .outcome ≡ Went logRows answerRows) × (carried h f k l .words ≡ words) × (carried h f k l .log ≡ log) × (carried h f k l .answers ≡ answers)
+    unfolding stepped stateOf
+    untouched n =
+        let u = one.only-steps (tableOf h f) position byte s n in
+        let a = ft .log-room in
+        let b = ft .answers-room in (
+          ap₂ Went (ap length (u .log) ∙ length-rowsOf logRows log) (ap length (u .answers) ∙ length-rowsOf answerRows answers),
+          u .words,
+          ap (λ es. infront (flat es) log) (u .log) ∙ sym (rows-same logRows log (omega arith)),
+          ap (λ es. infront (flat es) answers) (u .answers) ∙ sym (rows-same answerRows answers (omega arith)),
+        )
+
+    same-length : length (stepped h f k l .words) ≡ length words
+    unfolding stepped stateOf
+    same-length = grows (tableOf h f) position byte s .words
+
+    frame-carried : Frame h f records words log answers byte logRows answerRows (carried h f k l)
+    frame-carried = record {
+      others = other;
+      past-P = past;
+      all-records = length-append (stepped h f k l .processes) (drop P records) ∙ (let a = all-P in let b = length-drop P records in omega arith);
+      other-words = other-word;
+      all-words = same-length;
+      log-beyond = λ i g. beyond (flat (stepped h f k l .log)) log i (let a = counts .0 in let b = length-flat (stepped h f k l .log) in omega arith);
+      answers-beyond = λ i g. beyond (flat (stepped h f k l .answers)) answers i (let a = counts .1 in let b = length-flat (stepped h f k l .answers) in omega arith);
+      only-steps = untouched;
+    }
+
+-- refused: "nothing is changed"; or carried out, on a file that is accepted
+pub data Comes (f : List ℕ) (records : List Process) (words log answers : List ℕ) (byte logRows answerRows : ℕ) (p : Pressed) : Type 0 where
+  refused : (why : Why) (place : ℕ) → p ≡ record { outcome = Refused why place; processes = records; words = words; log = log; answers = answers } → Comes f records words log answers byte logRows answerRows p
+  went : (h : Header) → refusalOf f ample ≡ checked.Accepted h → (m a : ℕ) → p .outcome ≡ Went m a → Frame h f records words log answers byte logRows answerRows p → Comes f records words log answers byte logRows answerRows p
+
+-- whatever is lent, and whatever the key
+module _ (f : List ℕ) (records : List Process) (words log answers : List ℕ) (byte position logRows answerRows : ℕ) where
+  abbrev key : Pressing
+  key = pressing byte position logRows answerRows
+
+  abbrev lends : Lent
+  lends = lent records words log answers
+
+  pub frame : Comes f records words log answers byte logRows answerRows (keyed f records words log answers byte position logRows answerRows)
+  unfolding keyed pressed
+  frame = go (verdictOf f (length records) key lends) refl
+    where
+      go : (v : Verdict) → verdictOf f (length records) key lends ≡ v → Comes f records words log answers byte logRows answerRows (pressedAs v f key lends)
+      go (Not why place) e = refused why place refl
+      go (Fine h) e =
+          let file = fine-file f (length records) key lends h e in
+          went h (file .0) _ _ refl (frame-carried h f records words log answers byte position logRows answerRows (fit f (length records) key lends h e) (file .1))

@@ -1,0 +1,286 @@
+-- What the record of a process is like after any schedule that all began idle: no condition of 21 is met by it. By a property that says, of
+-- each stage, what the three stores and the earlier stages have left, and that a step, a crash and a wake keep.
+-- Assumes nothing.
+use Prim.Native.Nat.{ℕ, suc, _+_, _≤_, _<_}
+use mathlib.Core.Path.{_≡_, refl, sym, _∙_, subst}
+use mathlib.Core.Bool.{Bool, true, false, cond, _||_, true≢false}
+use mathlib.Core.List.{List}
+use native.Mathlib.Omega.{arith}
+use lib.Dec.{eqb, ltb}
+use lib.ListN.{getD}
+use borrow.Author.Tests.{ltb-true, le-ltb, lt-leb, eq-eqb, ne-eqb}
+use Rattle.runfile.specs.declared.Row.{Row}
+use Rattle.runfile.specs.Operations.{rowNumbered, first, count, reads, newOf}
+use Rattle.rows.specs.declared.Entry.{Entry}
+use Rattle.word.specs.Word.{value, valueIn, bit, swapped}
+use Rattle.machine.specs.declared.Process.{Process}
+use Rattle.machine.specs.declared.Stage.{Stage}
+use Rattle.machine.specs.declared.Stage.the-variants.{A1, A2, A3, A4, A5, A6, V1, V2, V3, V4, V5, V6}
+use Rattle.machine.specs.declared.Answer.the-variants.{False, True, Value}
+use Rattle.machine.specs.declared.Maybe.{Maybe}
+use Rattle.machine.specs.declared.Maybe.the-variants.{Nothing as None, Is}
+use Rattle.machine.specs.declared.Opened.{Opened}
+use Rattle.machine.specs.declared.Opened.the-variants.{Nothing as Closed, Row as Open}
+use Rattle.machine.specs.declared.Status.{Status}
+use Rattle.machine.specs.declared.Status.the-variants.{Down, Idle, N2, N3, Busy}
+use Rattle.machine.specs.declared.Turn.the-variants.{Still, Quiet, Swaps, Logs, Loses}
+use Rattle.machine.specs.Records.{fresh, with-status, with-stored, closed, crashed, waked, wokenUp, started, rowOpen}
+use Rattle.machine.specs.Steps.{decide, tried, storing, atWork, stepTurn, recovered, sameBit, afterRead}
+use Rattle.machine.specs.Machine.{State, processOf, turn, procAt, step, begin}
+use Rattle.machine.specs.Laws.{fresh-at, closed-open, each-step}
+use Rattle.panel.specs.Possible.{readHas, hasStage, hasAnswer, missing, notLast, openWhile, noneAt, noneLeft, noAnswer, wrongKind, misplaced, misdone, impossible}
+
+-- of a process whose rows begin at row `first`: row k is the last of the `begun` that it has begun, and what is kept is of its kind
+pub record Last (rows : List Row) (first begun : ℕ) (stored : Maybe) (checkpoint : Bool) (k : ℕ) : Type 0 where
+  pub last : k + 1 ≡ first + begun
+  pub some : 1 ≤ begun
+  pub kind : hasAnswer (reads (rowNumbered rows k)) stored ≡ true
+  pub compares : reads (rowNumbered rows k) ≡ true → checkpoint ≡ false
+
+-- in the midst of work: a row is open, whose kind has the stage and the answer; and where an answer is needed there is one
+pub record Works (rows : List Row) (opened : Opened) (stored : Maybe) (stage : Stage) (answer : Maybe) : Type 0 where
+  pub row : ℕ
+  pub opens : opened ≡ Open row
+  pub has-stage : hasStage (reads (rowNumbered rows row)) stage ≡ true
+  pub has-answer : hasAnswer (reads (rowNumbered rows row)) answer ≡ true
+  pub answered : missing stage answer stored ≡ false
+
+-- at each stage: an idle process has no row open; nor has one that announces a row, which is there, and whose first store has cleared the
+-- stored answer and whose second the checkpoint
+abbrev pub At : List Row → (count : ℕ) → Process → Status → Type 0
+At rows count r Down = Unit
+At rows count r Idle = r .opened ≡ Closed
+At rows count r N2 = (r .opened ≡ Closed) × (r .begun < count) × (r .stored ≡ None)
+At rows count r N3 = (r .opened ≡ Closed) × (r .begun < count) × (r .stored ≡ None) × (r .checkpoint ≡ false)
+At rows count r (Busy stage seen readAt triedAt answer) = Works rows (r .opened) (r .stored) stage answer
+
+pub record Lives (rows : List Row) (p : ℕ) (r : Process) : Type 0 where
+  pub few : r .begun ≤ count rows p
+  pub opened-last : (k : ℕ) → r .opened ≡ Open k → Last rows (first rows p) (r .begun) (r .stored) (r .checkpoint) k
+  pub at : At rows (count rows p) r (r .status)
+
+module _ (rows : List Row) (p : ℕ) where
+  -- a record whose status alone is another
+  go-on : (r : Process) (status : Status) → Lives rows p r → At rows (count rows p) (with-status status r) status → Lives rows p (with-status status r)
+  go-on r status h a = record { few = h .few; opened-last = h .opened-last; at = a }
+
+  -- a step in the midst of work on row k
+  module _ (t now : ℕ) (r : Process) (h : Lives rows p r) (k : ℕ) (o : r .opened ≡ Open k) where
+    abbrev row : Row
+    row = rowNumbered rows k
+
+    -- at work on that row
+    at-work : (stored : Maybe) (stage : Stage) (answer : Maybe) → hasStage (reads row) stage ≡ true → hasAnswer (reads row) answer ≡ true → missing stage answer stored ≡ false → Works rows (r .opened) stored stage answer
+    at-work stored stage answer s a m = record { row = k; opens = o; has-stage = s; has-answer = a; answered = m }
+
+    kept-last : Last rows (first rows p) (r .begun) (r .stored) (r .checkpoint) k
+    kept-last = h .opened-last k o
+
+    same-row : {j : ℕ} → r .opened ≡ Open j → k ≡ j
+    same-row e = let z = sym o ∙ e in cc
+
+    lives-read : Lives rows p (with-status (afterRead row now t) r)
+    lives-read = go (reads row) refl (eqb (valueIn 16 now) (row .old))
+      where
+        go : (c : Bool) → reads row ≡ c → (d : Bool) → Lives rows p (with-status (cond c (Busy A5 now t 0 (Is (Value (valueIn 16 now)))) (cond d (Busy A2 now t 0 None) (Busy A5 now t 0 (Is False)))) r)
+        go true q d = go-on r _ h (at-work (r .stored) A5 (Is (Value (valueIn 16 now))) (rw q) (rw q) refl)
+        go false q true = go-on r _ h (at-work (r .stored) A2 None (rw q) refl refl)
+        go false q false = go-on r _ h (at-work (r .stored) A5 (Is False) (rw q) (rw q) refl)
+
+    -- a compare's row, since a read has no such stage
+    compare-row : (stage : Stage) → hasStage true stage ≡ false → hasStage (reads row) stage ≡ true → reads row ≡ false
+    compare-row stage n s = go (reads row) refl
+      where
+        go : (c : Bool) → reads row ≡ c → reads row ≡ false
+        go true q = absurd (true≢false (sym (subst (λ c. hasStage c stage ≡ true) q s) ∙ n))
+        go false q = q
+
+    lives-tried : (seen readAt : ℕ) → reads row ≡ false → Lives rows p (processOf r (tried p t row now r seen readAt))
+    unfolding tried
+    lives-tried seen readAt q = go (eqb now seen)
+      where
+        go : (c : Bool) → Lives rows p (processOf r (cond c (Swaps (with-status (Busy A5 seen readAt t (Is True)) r) (swapped p (newOf row (value seen)) seen)) (Quiet (with-status (Busy A5 seen readAt t (Is False)) r))))
+        go true = go-on r _ h (at-work (r .stored) A5 (Is True) (rw q) (rw q) refl)
+        go false = go-on r _ h (at-work (r .stored) A5 (Is False) (rw q) (rw q) refl)
+
+    -- an answer of the row's kind is stored, at a stage of that kind
+    stores : (stage : Stage) (seen readAt triedAt : ℕ) (answer stored : Maybe) → hasStage (reads row) stage ≡ true → hasAnswer (reads row) answer ≡ true → missing stage answer stored ≡ false → hasAnswer (reads row) stored ≡ true
+        → Lives rows p (with-stored (Busy stage seen readAt triedAt answer) stored r)
+    stores stage seen readAt triedAt answer stored s a m k-ok = record {
+      few = h .few;
+      opened-last = λ j e. subst (Last rows (first rows p) (r .begun) stored (r .checkpoint)) (same-row e) (record { last = kept-last .last; some = kept-last .some; kind = k-ok; compares = kept-last .compares });
+      at = at-work stored stage answer s a m;
+    }
+
+    next-is : (next : Process) (seen readAt triedAt : ℕ) (answer : Maybe) → processOf r (storing row next seen readAt triedAt answer) ≡ next
+    unfolding storing
+    next-is next seen readAt triedAt None = refl
+    next-is next seen readAt triedAt (Is True) = refl
+    next-is next seen readAt triedAt (Is (Value v)) = refl
+    next-is next seen readAt triedAt (Is False) = go (eqb (value seen) (row .old))
+      where
+        go : (c : Bool) → processOf r (cond c (Loses next readAt triedAt) (Logs next readAt False)) ≡ next
+        go true = refl
+        go false = refl
+
+    -- the row is closed
+    ends : Lives rows p (closed r)
+    ends = record { few = h .few; opened-last = λ j e. closed-open e; at = refl }
+
+    -- the stages that both kinds have
+    both : (stage : Stage) → readHas stage ≡ true → (c : Bool) → hasStage c stage ≡ true
+    both stage e true = e
+    both stage e false = refl
+
+    lives-recovered : (stored : Maybe) → r .stored ≡ stored → (seen readAt triedAt : ℕ) (answer : Maybe) → hasAnswer (reads row) answer ≡ true → Lives rows p (with-status (Busy (recovered stored) seen readAt triedAt answer) r)
+    lives-recovered None q seen readAt triedAt answer a = go-on r _ h (at-work (r .stored) V2 answer (both V2 refl (reads row)) a refl)
+    lives-recovered (Is x) q seen readAt triedAt answer a = go-on r _ h (at-work (r .stored) V5 answer (both V5 refl (reads row)) a (rw q refl))
+
+    lives-checked : (checkpoint : Bool) → r .checkpoint ≡ checkpoint → (seen readAt triedAt : ℕ) (answer : Maybe) → hasAnswer (reads row) answer ≡ true → Lives rows p (with-status (Busy (cond checkpoint V3 V6) seen readAt triedAt answer) r)
+    lives-checked true q seen readAt triedAt answer a = go-on r _ h (at-work (r .stored) V3 answer (go (reads row) refl) a refl)
+      where
+        go : (c : Bool) → reads row ≡ c → hasStage c V3 ≡ true
+        go true e = absurd (true≢false (sym q ∙ kept-last .compares e))
+        go false e = refl
+    lives-checked false q seen readAt triedAt answer a = go-on r _ h (at-work (r .stored) V6 answer (both V6 refl (reads row)) a refl)
+
+    lives-compared : (c : Bool) (readAt triedAt : ℕ) (answer : Maybe) → reads row ≡ false → hasAnswer (reads row) answer ≡ true → Lives rows p (with-status (Busy (cond c V4 V6) now readAt triedAt answer) r)
+    lives-compared true readAt triedAt answer q a = go-on r _ h (at-work (r .stored) V4 answer (rw q) a refl)
+    lives-compared false readAt triedAt answer q a = go-on r _ h (at-work (r .stored) V6 answer (rw q) a refl)
+
+    lives-decide : (stage : Stage) (seen readAt triedAt : ℕ) (answer : Maybe) → hasStage (reads row) stage ≡ true → hasAnswer (reads row) answer ≡ true → missing stage answer (r .stored) ≡ false
+        → Lives rows p (processOf r (decide row p t now r stage seen readAt triedAt answer))
+    unfolding decide
+    lives-decide A1 seen readAt triedAt answer s a m = lives-read
+    lives-decide A2 seen readAt triedAt answer s a m = record { few = h .few; opened-last = h .opened-last; at = at-work (r .stored) A3 answer (rw (compare-row A2 refl s)) a refl }
+    lives-decide A3 seen readAt triedAt answer s a m = record {
+      few = h .few;
+      opened-last = λ j e. subst (Last rows (first rows p) (r .begun) (r .stored) true) (same-row e) (record { last = kept-last .last; some = kept-last .some; kind = kept-last .kind; compares = λ q. absurd (true≢false (sym q ∙ compare-row A3 refl s)) });
+      at = at-work (r .stored) A4 answer (rw (compare-row A3 refl s)) a refl;
+    }
+    lives-decide A4 seen readAt triedAt answer s a m = lives-tried seen readAt (compare-row A4 refl s)
+    lives-decide A5 seen readAt triedAt answer s a m =
+        subst (Lives rows p) (sym (next-is _ seen readAt triedAt answer)) (stores A6 seen readAt triedAt answer answer (both A6 refl (reads row)) a m a)
+    lives-decide A6 seen readAt triedAt answer s a m = ends
+    lives-decide V1 seen readAt triedAt answer s a m = lives-recovered (r .stored) refl seen readAt triedAt answer a
+    lives-decide V2 seen readAt triedAt answer s a m = lives-checked (r .checkpoint) refl seen readAt triedAt answer a
+    lives-decide V3 seen readAt triedAt answer s a m = lives-compared (sameBit (bit p now) (r .kept)) readAt triedAt answer (compare-row V3 refl s) a
+    lives-decide V4 seen readAt triedAt answer s a m = stores V5 seen readAt triedAt answer (Is True) (both V5 refl (reads row)) a refl (rw (compare-row V4 refl s))
+    lives-decide V5 seen readAt triedAt answer s a m = ends
+    lives-decide V6 seen readAt triedAt answer s a m = ends
+
+  -- a step, whatever the record's status
+  pub lives-turn : (t : ℕ) (words : List ℕ) (log : List Entry) (r : Process) → Lives rows p r → Lives rows p (turn rows p t words log r (r .status) .process)
+  unfolding turn stepTurn
+  lives-turn t words log r h = go (r .status) refl (h .at)
+    where
+      start : (c : Bool) → ltb (r .begun) (count rows p) ≡ c → r .opened ≡ Closed → Lives rows p (processOf r (cond c (Quiet (with-stored N2 None r)) Still))
+      start true l o = record { few = h .few; opened-last = λ j e. closed-open (sym o ∙ e); at = (o, ltb-true (r .begun) (count rows p) l, refl) }
+      start false l o = h
+
+      -- the third store opens the row, with what the first two have cleared
+      opens : (r .opened ≡ Closed) × (r .begun < count rows p) × (r .stored ≡ None) × (r .checkpoint ≡ false) → Lives rows p (started (first rows p + r .begun) r)
+      opens a = record {
+        few = a .1;
+        opened-last = λ j e. subst (Last rows (first rows p) (suc (r .begun)) (r .stored) (r .checkpoint)) (same e)
+            (record { last = omega arith; some = omega arith; kind = rw (a .2) refl; compares = λ _. a .3 });
+        at = record { row = first rows p + r .begun; opens = refl; has-stage = first-stage (reads (rowNumbered rows (first rows p + r .begun))); has-answer = refl; answered = refl };
+      }
+        where
+          same : {j : ℕ} → Open (first rows p + r .begun) ≡ Open j → first rows p + r .begun ≡ j
+          same e = cc
+
+          first-stage : (c : Bool) → hasStage c A1 ≡ true
+          first-stage true = refl
+          first-stage false = refl
+
+      work : (o : Opened) → r .opened ≡ o → (stage : Stage) (seen readAt triedAt : ℕ) (answer : Maybe) → Works rows (r .opened) (r .stored) stage answer
+          → Lives rows p (processOf r (atWork (rowNumbered rows (rowOpen o)) p t (getD words (rowNumbered rows (rowOpen o) .word) 0) r o stage seen readAt triedAt answer))
+      work Closed q stage seen readAt triedAt answer w = h
+      work (Open k) q stage seen readAt triedAt answer w =
+          let e : w .row ≡ k = (let z = sym (w .opens) ∙ q in cc) in
+          lives-decide t _ r h k q stage seen readAt triedAt answer
+          (subst (λ k. hasStage (reads (rowNumbered rows k)) stage ≡ true) e (w .has-stage))
+          (subst (λ k. hasAnswer (reads (rowNumbered rows k)) answer ≡ true) e (w .has-answer))
+          (w .answered)
+
+      go : (status : Status) → r .status ≡ status → At rows (count rows p) r status
+          → Lives rows p (processOf r (stepTurn (rowNumbered rows (rowOpen (r .opened))) p t (getD words (rowNumbered rows (rowOpen (r .opened)) .word) 0) (first rows p) (count rows p) r status))
+      go Down e a = h
+      go Idle e a = start (ltb (r .begun) (count rows p)) refl a
+      go N2 e a = record { few = h .few; opened-last = λ j x. closed-open (sym (a .0) ∙ x); at = (a .0, a .1, a .2, refl) }
+      go N3 e a = opens a
+      go (Busy stage seen readAt triedAt answer) e a = work (r .opened) refl stage seen readAt triedAt answer a
+
+  lives-crashed : (r : Process) → Lives rows p r → Lives rows p (crashed r)
+  lives-crashed r h = record { few = h .few; opened-last = h .opened-last; at = tt }
+
+  lives-waked : (r : Process) (status : Status) → Lives rows p r → Lives rows p (waked r status)
+  lives-waked r Down h = go-on r _ h (go (r .opened) refl)
+    where
+      has : (c : Bool) → hasStage c V1 ≡ true
+      has true = refl
+      has false = refl
+
+      go : (o : Opened) → r .opened ≡ o → At rows (count rows p) (with-status (wokenUp o) r) (wokenUp o)
+      go Closed q = q
+      go (Open k) q = record { row = k; opens = q; has-stage = has (reads (rowNumbered rows k)); has-answer = refl; answered = refl }
+  lives-waked r Idle h = h
+  lives-waked r N2 h = h
+  lives-waked r N3 h = h
+  lives-waked r (Busy stage seen readAt triedAt answer) h = h
+
+  pub lives-fresh : Lives rows p fresh
+  lives-fresh = record { few = omega arith; opened-last = λ k e. closed-open e; at = refl }
+
+-- every record goes on so, whatever the byte is
+pub lives-step : (rows : List Row) (t byte : ℕ) (s : State) → ((q : ℕ) → Lives rows q (procAt q s)) → (q : ℕ) → Lives rows q (procAt q (step rows t byte s))
+lives-step rows = each-step rows (Lives rows) (lives-turn rows) (lives-crashed rows) (λ p r h. lives-waked rows p r (r .status) h)
+
+pub lives-begin : (rows : List Row) (P : ℕ) (words : List ℕ) (q : ℕ) → Lives rows q (procAt q (begin P words))
+unfolding begin procAt
+lives-begin rows P words q = rw (fresh-at P q) (lives-fresh rows q)
+
+-- none of the conditions of 21
+module _ (rows : List Row) (p : ℕ) (r : Process) (h : Lives rows p r) where
+  last-begun : (o : Opened) → r .opened ≡ o → notLast (first rows p) (r .begun) o ≡ false
+  last-begun Closed q = refl
+  last-begun (Open k) q =
+      let l = h .opened-last k q in
+      let ne : r .begun ≡ 0 → ⊥ = λ e. (let s = l .some in omega arith) in
+      rw (ne-eqb (r .begun) 0 ne, eq-eqb (k + 1) (first rows p + r .begun) (l .last)) refl
+
+  placed : (status : Status) → At rows (count rows p) r status → (openWhile (r .opened) status || (noneAt (r .opened) status || noneLeft (count rows p) (r .begun) status)) ≡ false
+  placed Down a = refl
+  placed Idle a = rw a refl
+  placed N2 a = rw (a .0, lt-leb (count rows p) (r .begun) (a .1)) refl
+  placed N3 a = rw (a .0, lt-leb (count rows p) (r .begun) (a .1)) refl
+  placed (Busy stage seen readAt triedAt answer) a = rw (a .opens) refl
+
+  not-misplaced : misplaced (first rows p) (count rows p) r ≡ false
+  unfolding misplaced
+  not-misplaced = rw (le-ltb (count rows p) (r .begun) (h .few), last-begun (r .opened) refl) (placed (r .status) (h .at))
+
+  -- of the row that is open the kind is asked; with none open there is nothing that could be wrong
+  rightly : (o : Opened) → r .opened ≡ o → (status : Status) → At rows (count rows p) r status → (noAnswer (r .stored) status || wrongKind (reads (rowNumbered rows (rowOpen o))) o (r .stored) status) ≡ false
+  rightly Closed q Down a = refl
+  rightly Closed q Idle a = refl
+  rightly Closed q N2 a = refl
+  rightly Closed q N3 a = refl
+  rightly Closed q (Busy stage seen readAt triedAt answer) w = closed-open (sym q ∙ w .opens)
+  rightly (Open k) q Down a = rw (h .opened-last k q .kind) refl
+  rightly (Open k) q Idle a = closed-open (sym a ∙ q)
+  rightly (Open k) q N2 a = closed-open (sym (a .0) ∙ q)
+  rightly (Open k) q N3 a = closed-open (sym (a .0) ∙ q)
+  rightly (Open k) q (Busy stage seen readAt triedAt answer) w =
+      let e : w .row ≡ k = (let z = sym (w .opens) ∙ q in cc) in
+      rw (
+        w .answered,
+        h .opened-last k q .kind,
+        subst (λ k. hasStage (reads (rowNumbered rows k)) stage ≡ true) e (w .has-stage),
+        subst (λ k. hasAnswer (reads (rowNumbered rows k)) answer ≡ true) e (w .has-answer),
+      ) refl
+
+  pub lives-possible : impossible rows p r ≡ false
+  unfolding impossible misdone
+  lives-possible = rw (not-misplaced) (rightly (r .opened) refl (r .status) (h .at))
