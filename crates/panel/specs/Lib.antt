@@ -9,3 +9,4 @@ pub mod Longer
 pub mod Only
 pub mod Through
 pub mod Frame
+pub mod Instances

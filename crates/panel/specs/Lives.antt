@@ -59,6 +59,11 @@ pub record Lives (rows : List Row) (p : ℕ) (r : Process) : Type 0 where
   pub opened-last : (k : ℕ) → r .opened ≡ Open k → Last rows (first rows p) (r .begun) (r .stored) (r .checkpoint) k
   pub at : At rows (count rows p) r (r .status)
 
+-- the stages that both kinds have
+both : (stage : Stage) → readHas stage ≡ true → (isRead : Bool) → hasStage isRead stage ≡ true
+both stage e true = e
+both stage e false = refl
+
 module _ (rows : List Row) (p : ℕ) where
   -- a record whose status alone is another
   go-on : (r : Process) (status : Status) → Lives rows p r → At rows (count rows p) (with-status status r) status → Lives rows p (with-status status r)
@@ -127,11 +132,6 @@ module _ (rows : List Row) (p : ℕ) where
     ends : Lives rows p (closed r)
     ends = record { few = h .few; opened-last = λ j e. closed-open e; at = refl }
 
-    -- the stages that both kinds have
-    both : (stage : Stage) → readHas stage ≡ true → (c : Bool) → hasStage c stage ≡ true
-    both stage e true = e
-    both stage e false = refl
-
     lives-recovered : (stored : Maybe) → r .stored ≡ stored → (seen readAt triedAt : ℕ) (answer : Maybe) → hasAnswer (reads row) answer ≡ true → Lives rows p (with-status (Busy (recovered stored) seen readAt triedAt answer) r)
     lives-recovered None q seen readAt triedAt answer a = go-on r _ h (at-work (r .stored) V2 answer (both V2 refl (reads row)) a refl)
     lives-recovered (Is x) q seen readAt triedAt answer a = go-on r _ h (at-work (r .stored) V5 answer (both V5 refl (reads row)) a (rw q refl))
@@ -184,15 +184,11 @@ module _ (rows : List Row) (p : ℕ) where
         few = a .1;
         opened-last = λ j e. subst (Last rows (first rows p) (suc (r .begun)) (r .stored) (r .checkpoint)) (same e)
             (record { last = omega arith; some = omega arith; kind = rw (a .2) refl; compares = λ _. a .3 });
-        at = record { row = first rows p + r .begun; opens = refl; has-stage = first-stage (reads (rowNumbered rows (first rows p + r .begun))); has-answer = refl; answered = refl };
+        at = record { row = first rows p + r .begun; opens = refl; has-stage = both A1 refl (reads (rowNumbered rows (first rows p + r .begun))); has-answer = refl; answered = refl };
       }
         where
           same : {j : ℕ} → Open (first rows p + r .begun) ≡ Open j → first rows p + r .begun ≡ j
           same e = cc
-
-          first-stage : (c : Bool) → hasStage c A1 ≡ true
-          first-stage true = refl
-          first-stage false = refl
 
       work : (o : Opened) → r .opened ≡ o → (stage : Stage) (seen readAt triedAt : ℕ) (answer : Maybe) → Works rows (r .opened) (r .stored) stage answer
           → Lives rows p (processOf r (atWork (rowNumbered rows (rowOpen o)) p t (getD words (rowNumbered rows (rowOpen o) .word) 0) r o stage seen readAt triedAt answer))
@@ -218,13 +214,9 @@ module _ (rows : List Row) (p : ℕ) where
   lives-waked : (r : Process) (status : Status) → Lives rows p r → Lives rows p (waked r status)
   lives-waked r Down h = go-on r _ h (go (r .opened) refl)
     where
-      has : (c : Bool) → hasStage c V1 ≡ true
-      has true = refl
-      has false = refl
-
       go : (o : Opened) → r .opened ≡ o → At rows (count rows p) (with-status (wokenUp o) r) (wokenUp o)
       go Closed q = q
-      go (Open k) q = record { row = k; opens = q; has-stage = has (reads (rowNumbered rows k)); has-answer = refl; answered = refl }
+      go (Open k) q = record { row = k; opens = q; has-stage = both V1 refl (reads (rowNumbered rows k)); has-answer = refl; answered = refl }
   lives-waked r Idle h = h
   lives-waked r N2 h = h
   lives-waked r N3 h = h

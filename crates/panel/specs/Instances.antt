@@ -1,0 +1,131 @@
+-- The definitions of a key at records and keys, by computation: of each condition of 21 a record that meets it and one beside it that does not;
+-- and the order of the refusals.
+-- Assumes nothing.
+use Prim.Native.Nat.{ℕ}
+use mathlib.Core.Path.{_≡_, refl}
+use mathlib.Core.Bool.{true, false}
+use mathlib.Core.List.{List, [], _∷_, map}
+use lib.ListN.{replicate}
+use Rattle.runfile.specs.declared.Row.{Row}
+use Rattle.runfile.specs.Layout.{u16At, marked, headerIn, rowAt}
+use Rattle.runfile.specs.Operations.{rowsFrom, tableOf, rowNumbered, first, count}
+use Rattle.runfile.specs.Refusals.{badField, sameFields, badByte, firstBadField, firstRow, firstLaterRow, firstByte, refusalOf}
+use Rattle.machine.specs.declared.Process.{Process}
+use Rattle.machine.specs.declared.Stage.the-variants.{A1, A2, A5, A6, V2, V3, V5}
+use Rattle.machine.specs.declared.Answer.the-variants.{False, True, Value}
+use Rattle.machine.specs.declared.Maybe.{Maybe}
+use Rattle.machine.specs.declared.Maybe.the-variants.{Nothing as None, Is}
+use Rattle.machine.specs.declared.Opened.{Opened}
+use Rattle.machine.specs.declared.Opened.the-variants.{Nothing as Closed, Row as Open}
+use Rattle.machine.specs.declared.Stage.{Stage}
+use Rattle.machine.specs.declared.Status.{Status}
+use Rattle.machine.specs.declared.Status.the-variants.{Down, Idle, N2, N3, Busy}
+use Rattle.machine.specs.Records.{fresh}
+use Rattle.panel.specs.declared.Outcome.{Outcome}
+use Rattle.panel.specs.declared.Outcome.the-variants.{Went, Refused}
+use Rattle.panel.specs.Possible.{misplaced, misdone, impossible, anyImpossible}
+use Rattle.panel.specs.Press.{numberOfWhy, judged, verdictOf, pressed}
+use Rattle.panel.specs.Key.{keyed}
+
+-- process 0 reads word 0, and then moves it from 7 to 8
+abbrev rows : List Row
+rows = record { process = 0; kind = 0; word = 0; old = 0; new = 0 } ∷ record { process = 0; kind = 1; word = 0; old = 7; new = 8 } ∷ []
+
+abbrev with : (begun : ℕ) → Opened → (stored : Maybe) → Status → Process
+with begun opened stored status = record { status = status; opened = opened; stored = stored; checkpoint = false; kept = false; begun = begun }
+
+abbrev at : Stage → Maybe → Status
+at stage answer = Busy stage 7 0 0 answer
+
+-- one for each condition, in the request's order
+abbrev meets : List Process
+meets =
+    with 3 Closed None Idle  -- more rows begun than its process has
+    ∷ with 2 (Open 0) None Down  -- an open row that is not the last it began
+    ∷ with 0 (Open 0) None Down
+    ∷ with 1 (Open 0) None Idle  -- an open row while idle
+    ∷ with 1 (Open 0) None N2  -- or announcing
+    ∷ with 1 (Open 0) None N3
+    ∷ with 1 Closed None (at A1 None)  -- none at a later stage
+    ∷ with 2 Closed None N2  -- announcing with no row left
+    ∷ with 2 Closed None N3
+    ∷ with 1 (Open 0) None (at A5 None)  -- no answer at A5, A6 or V5
+    ∷ with 1 (Open 0) (Is (Value 7)) (at A6 None)
+    ∷ with 1 (Open 0) None (at V5 None)
+    ∷ with 1 (Open 0) None (at A2 None)  -- a stage that a read never has
+    ∷ with 1 (Open 0) None (at V3 None)
+    ∷ with 1 (Open 0) None (at A5 (Is True))  -- an answer that a read never has
+    ∷ with 1 (Open 0) (Is False) Down
+    ∷ with 2 (Open 1) None (at A5 (Is (Value 7)))  -- or a compare
+    ∷ with 2 (Open 1) (Is (Value 7)) Down
+    ∷ []
+
+-- the nearest records that can be
+abbrev can-be : List Process
+can-be =
+    with 2 Closed None Idle
+    ∷ with 2 (Open 1) None Down
+    ∷ with 1 (Open 0) None Down
+    ∷ with 1 Closed None Idle
+    ∷ with 1 Closed None N2
+    ∷ with 1 Closed None N3
+    ∷ with 1 (Open 0) None (at A1 None)
+    ∷ with 1 Closed (Is True) N3
+    ∷ with 1 (Open 0) None (at A5 (Is (Value 7)))
+    ∷ with 1 (Open 0) (Is (Value 7)) (at A6 (Is (Value 7)))
+    ∷ with 1 (Open 0) (Is (Value 7)) (at V5 None)
+    ∷ with 1 (Open 0) None (at V2 None)
+    ∷ with 2 (Open 1) None (at A2 None)
+    ∷ with 2 (Open 1) None (at V3 None)
+    ∷ with 2 (Open 1) None (at A5 (Is True))
+    ∷ with 2 (Open 1) (Is False) Down
+    ∷ with 1 Closed (Is (Value 7)) Down  -- an answer left over from a row that is closed
+    ∷ []
+
+pub each-met : map (impossible rows 0) meets ≡ replicate 18 true
+unfolding impossible misplaced misdone rowNumbered first count
+each-met = refl
+
+pub none-met : map (impossible rows 0) can-be ≡ replicate 17 false
+unfolding impossible misplaced misdone rowNumbered first count
+none-met = refl
+
+-- two processes, one word, the two rows, no schedule
+abbrev file : List ℕ
+file = 83 ∷ 87 ∷ 82 ∷ 1 ∷ 0 ∷ 2 ∷ 1 ∷ 2 ∷ 0 ∷ 0 ∷ 0 ∷ 7 ∷ 0 ∷ 0 ∷ 0 ∷ 0 ∷ 0 ∷ 0 ∷ 0 ∷ 0 ∷ 0 ∷ 0 ∷ 0 ∷ 0 ∷ 1 ∷ 0 ∷ 0 ∷ 7 ∷ 0 ∷ 8 ∷ 0 ∷ []
+
+-- the same with its mark spoilt
+abbrev damaged : List ℕ
+damaged = 83 ∷ 87 ∷ 83 ∷ 1 ∷ 0 ∷ 2 ∷ 1 ∷ 2 ∷ 0 ∷ 0 ∷ 0 ∷ 7 ∷ 0 ∷ 0 ∷ 0 ∷ 0 ∷ 0 ∷ 0 ∷ 0 ∷ 0 ∷ 0 ∷ 0 ∷ 0 ∷ 0 ∷ 1 ∷ 0 ∷ 0 ∷ 7 ∷ 0 ∷ 8 ∷ 0 ∷ []
+
+-- a record that cannot be, at process 1, which has no row
+abbrev spoilt : List Process
+spoilt = fresh ∷ with 1 Closed None Idle ∷ []
+
+abbrev idle : List Process
+idle = fresh ∷ fresh ∷ []
+
+-- the number of the refusal, 0 for none
+abbrev refusal : Outcome → ℕ
+refusal (Went log answers) = 0
+refusal (Refused why place) = numberOfWhy why
+
+-- everything is wrong, and one thing after the other is put right: a damaged file; no word; one record; room for no log row; a log count past the
+-- buffer; room for no answer; position 1,024; a record that cannot be; bytes that are no action; and at last nothing
+pub in-order :
+    refusal (keyed damaged (fresh ∷ []) [] [] [] 48 1024 0 0 .outcome)
+    ∷ refusal (keyed file (fresh ∷ []) [] [] [] 48 1024 0 0 .outcome)
+    ∷ refusal (keyed file (fresh ∷ []) (7 ∷ []) [] [] 48 1024 0 0 .outcome)
+    ∷ refusal (keyed file spoilt (7 ∷ []) (replicate 4 0) [] 48 1024 0 0 .outcome)
+    ∷ refusal (keyed file spoilt (7 ∷ []) (replicate 14 0) [] 48 1024 2 0 .outcome)
+    ∷ refusal (keyed file spoilt (7 ∷ []) (replicate 15 0) [] 48 1024 2 0 .outcome)
+    ∷ refusal (keyed file spoilt (7 ∷ []) (replicate 15 0) (replicate 5 0) 48 1024 2 0 .outcome)
+    ∷ refusal (keyed file spoilt (7 ∷ []) (replicate 15 0) (replicate 5 0) 48 1023 2 0 .outcome)
+    ∷ refusal (keyed file idle (7 ∷ []) (replicate 15 0) (replicate 5 0) 48 1023 2 0 .outcome)
+    ∷ refusal (keyed file idle (7 ∷ []) (replicate 15 0) (replicate 5 0) 2 1023 2 0 .outcome)
+    ∷ refusal (keyed file idle (7 ∷ []) (replicate 15 0) (replicate 5 0) 241 1023 2 0 .outcome)
+    ∷ refusal (keyed file idle (7 ∷ []) (replicate 15 0) (replicate 5 0) 0 1023 2 0 .outcome)
+    ∷ []
+    ≡ 2 ∷ 13 ∷ 13 ∷ 14 ∷ 14 ∷ 15 ∷ 21 ∷ 21 ∷ 22 ∷ 22 ∷ 22 ∷ 0 ∷ []
+unfolding keyed pressed verdictOf judged refusalOf headerIn u16At marked rowAt badField sameFields badByte firstBadField firstRow firstLaterRow firstByte tableOf rowsFrom anyImpossible impossible misplaced misdone rowNumbered first count
+in-order = refl
