@@ -13,9 +13,13 @@ pub fn write_outcome(
 ) -> io::Result<()> {
     match result {
         Ok(ran) => write_run(out, &ran, buffers),
-        // "A refusal prints only `refused`, number, place."
-        Err(refusal) => writeln!(out, "refused {} {}", refusal.number(), refusal.place),
+        Err(refusal) => write_refusal(out, refusal),
     }
+}
+
+/// "A refusal prints only `refused`, number, place."
+pub fn write_refusal(out: &mut impl Write, refusal: Refusal) -> io::Result<()> {
+    writeln!(out, "refused {} {}", refusal.number(), refusal.place)
 }
 
 /// "First comes `run`, P, W, rows, S. Then for each word, in order, a line of
@@ -31,10 +35,14 @@ fn write_run(out: &mut impl Write, ran: &Ran, buffers: &Buffers) -> io::Result<(
     } = ran;
     writeln!(out, "run {processes} {words} {rows} {schedule}")?;
     for (number, word) in buffers.words.iter().take(ran.words).enumerate() {
-        writeln!(out, "word {number} {} {}", word & 0xFFFF, word >> 16)?;
+        write_word(out, number, *word)?;
     }
     write_rows(out, "log", &buffers.log, ran.log_rows)?;
     write_rows(out, "answer", &buffers.answers, ran.answer_rows)
+}
+
+pub fn write_word(out: &mut impl Write, number: usize, word: u32) -> io::Result<()> {
+    writeln!(out, "word {number} {} {}", word & 0xFFFF, word >> 16)
 }
 
 fn write_rows(out: &mut impl Write, name: &str, buffer: &[u32], rows: usize) -> io::Result<()> {

@@ -1,8 +1,9 @@
 //! `second`: an independent second program for the machine of document 01.
 //!
 //! "Other cases are run and compared with an independent second program."
-//! This is that program. It was written from document 01 and the change
-//! requests alone; comments quote the sentence that a piece of code renders.
+//! This is that program. It was written from document 01, the change requests
+//! and the description of the panel alone; comments quote the sentence that a
+//! piece of code renders.
 
 #![forbid(unsafe_code)]
 
@@ -10,9 +11,14 @@ mod checker;
 mod compare;
 mod generate;
 mod hex;
+mod key;
+mod key_text;
+mod keys;
 mod lines;
 mod machine;
 mod outcome_text;
+mod panel;
+mod panel_kinds;
 mod pieces;
 mod run;
 mod stream;
@@ -38,7 +44,11 @@ const USAGE: &str = "usage:
   second unrun < STREAM > STREAM
   second sweep < STREAM > OUTCOMES
   second compare STREAM OUTCOMES_A OUTCOMES_B
-  second check STREAM OUTCOMES";
+  second check STREAM OUTCOMES
+  second panel FILE < KEYS
+  second keys < FILE > KEYS
+  second key-text SEED < FILE > KEYS
+  second panel-kinds < TEXTS";
 
 /// How a subcommand ended, when reading and writing went well.
 #[derive(Clone, Copy, PartialEq, Eq)]
@@ -85,6 +95,17 @@ fn dispatch(arguments: &[OsString]) -> Option<io::Result<Ending>> {
         ("check", [stream, outcomes]) => {
             Some(checker::command(Path::new(stream), Path::new(outcomes)))
         }
+        (name, rest) => dispatch_panel(name, rest),
+    }
+}
+
+/// The subcommands of change request 3.
+fn dispatch_panel(name: &str, rest: &[OsString]) -> Option<io::Result<Ending>> {
+    match (name, rest) {
+        ("panel", [file]) => Some(panel::command(Path::new(file))),
+        ("keys", []) => Some(keys::command()),
+        ("key-text", [seed]) => Some(key_text::command(number(seed)?)),
+        ("panel-kinds", []) => Some(panel_kinds::command()),
         _ => None,
     }
 }

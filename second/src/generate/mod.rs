@@ -4,7 +4,7 @@
 mod draft;
 mod faults;
 mod lengths;
-mod random;
+pub mod random;
 mod raw;
 mod scenes;
 mod script;
@@ -61,13 +61,18 @@ impl Flavour {
 }
 
 pub fn command(seed: u64, count: u64, flavour: Flavour) -> io::Result<Ending> {
-    let mut random = Random::seeded(seed);
     let mut out = BufWriter::new(io::stdout().lock());
-    for _ in 0..count {
-        flavour.record(&mut random).write(&mut out)?;
+    for record in records(seed, count, flavour) {
+        record.write(&mut out)?;
     }
     out.flush()?;
     Ok(Ending::Clean)
+}
+
+/// The records of the stream.
+pub fn records(seed: u64, count: u64, flavour: Flavour) -> impl Iterator<Item = Record> {
+    let mut random = Random::seeded(seed);
+    (0..count).map(move |_| flavour.record(&mut random))
 }
 
 #[derive(Clone, Copy)]

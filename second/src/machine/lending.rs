@@ -7,6 +7,7 @@ use super::run_file::RunFile;
 
 /// "Three buffers, lent as 32-bit numbers: the words (at least W numbers),
 /// the log and the answers (each at least 5 × S)."
+#[derive(Clone, Debug, PartialEq, Eq)]
 pub struct Buffers {
     pub words: Vec<u32>,
     pub log: Vec<u32>,

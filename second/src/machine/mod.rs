@@ -5,6 +5,7 @@
 //! The way of a run: [`run_file`] reads and checks the file (refusals 1 to
 //! 12), [`lending`] checks the buffers (13 to 15) and writes the outcome into
 //! them, and [`carry_out`] does the work in between on its own structures.
+//! [`crate::key`] carries out one byte alone, over what a panel lends.
 
 mod action;
 mod carry_out;
@@ -16,8 +17,14 @@ mod row;
 mod run_file;
 mod word;
 
+pub use action::Action;
 pub use lending::{run, Buffers, Ran};
-pub use refusal::Refusal;
+pub use log::{Entry, Verdict};
+pub use process::Store;
+pub use refusal::{refuse_if, Cause, Refusal};
+pub use row::{Operation, Row};
+pub use run_file::RunFile;
+pub use word::Word;
 
 #[cfg(test)]
 mod announcement_tests;

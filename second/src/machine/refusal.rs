@@ -1,6 +1,6 @@
-//! The table "Refusal numbers".
+//! The table "Refusal numbers", and the numbers of change request 3.
 
-/// Why a file is refused; each case has its number in the table.
+/// Why a file or a key is refused; each case has its number.
 #[derive(Clone, Copy, Debug, PartialEq, Eq)]
 pub enum Cause {
     /// "file under 11 bytes"
@@ -29,12 +29,17 @@ pub enum Cause {
     OldEqualsNew = 11,
     /// "a schedule byte that is no action"
     NoAction = 12,
-    /// "words buffer under W"
+    /// "words buffer under W"; for a key "also for a list shorter than P"
+    /// (change request 3)
     WordsBuffer = 13,
-    /// "log buffer under 5 × S"
+    /// "log buffer under 5 × S"; for a key "no room for one more row"
     LogBuffer = 14,
-    /// "answers buffer under 5 × S"
+    /// "answers buffer under 5 × S"; for a key the same as 14
     AnswersBuffer = 15,
+    /// of a key only: a position over 1,023, or a record that no run comes to
+    PanelState = 21,
+    /// "a key byte that is no action"
+    KeyByte = 22,
 }
 
 /// "The result is the number and a place, counted in bytes of the file from 0".
