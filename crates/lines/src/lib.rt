@@ -1,4 +1,4 @@
-// The lines of an outcome, for every program that prints one.
+// The lines of an outcome, for every program that prints one, or a part of one.
 //
 // What is put where is not promised: these functions promise only that nothing goes wrong. What they print is held
 // against an independent program's text by the comparison of `second/`.
@@ -21,7 +21,7 @@ fn two_bytes(low: u8, high: u8) -> u64 {
 }
 
 // Puts the line of one word: its number, its value and its flip bits as one number.
-fn put_word(out: &mut [u8], at: usize, number: usize, word: u32) -> usize {
+pub fn put_word(out: &mut [u8], at: usize, number: usize, word: u32) -> usize {
     let mut next = put_name(out, at, b"word");
     next = put_number(out, next, number as u64);
     next = put_number(out, next, wide(word % 65536));
@@ -30,7 +30,7 @@ fn put_word(out: &mut [u8], at: usize, number: usize, word: u32) -> usize {
 }
 
 // Puts the lines of the first `count` words. The buffer may hold more words than the run has.
-fn put_words(out: &mut [u8], at: usize, words: &[u32], count: usize) -> usize {
+pub fn put_words(out: &mut [u8], at: usize, words: &[u32], count: usize) -> usize {
     let mut next = at;
     let mut k = 0;
     while k < count {
@@ -43,8 +43,9 @@ fn put_words(out: &mut [u8], at: usize, words: &[u32], count: usize) -> usize {
     next
 }
 
-// Puts the line of one log or answer row, whose five numbers begin at `first`.
-fn put_row(out: &mut [u8], at: usize, name: &[u8], rows: &[u32], first: usize) -> usize {
+// Puts the name and the numbers of one log or answer row, whose five numbers begin at `first`. The line goes on or ends
+// as the caller likes.
+pub fn put_row(out: &mut [u8], at: usize, name: &[u8], rows: &[u32], first: usize) -> usize {
     if rows.len() < 5 {
         return at;
     }
@@ -58,7 +59,7 @@ fn put_row(out: &mut [u8], at: usize, name: &[u8], rows: &[u32], first: usize) -
         next = put_number(out, next, wide(rows[k]));
         k += 1;
     }
-    put(out, next, b'\n')
+    next
 }
 
 // Puts the lines of the first `count` rows: a row has five numbers, and a run has at most 1,024 rows of a kind.
@@ -70,13 +71,14 @@ fn put_rows(out: &mut [u8], at: usize, name: &[u8], rows: &[u32], count: usize) 
             return next;
         }
         next = put_row(out, next, name, rows, 5 * k);
+        next = put(out, next, b'\n');
         k += 1;
     }
     next
 }
 
 // Puts the first line of a run: P, W, the number of rows and S, as the header has them.
-fn put_header(out: &mut [u8], at: usize, file: &[u8]) -> usize {
+pub fn put_header(out: &mut [u8], at: usize, file: &[u8]) -> usize {
     if file.len() < 11 {
         return at;
     }
@@ -89,7 +91,7 @@ fn put_header(out: &mut [u8], at: usize, file: &[u8]) -> usize {
 }
 
 // Puts the one line of a refusal: its number and its place. A place lies in the file, so it has few digits.
-fn put_refusal(out: &mut [u8], at: usize, number: u32, place: usize) -> usize {
+pub fn put_refusal(out: &mut [u8], at: usize, number: u32, place: usize) -> usize {
     let mut next = put_name(out, at, b"refused");
     next = put_number(out, next, wide(number));
     next = put_number(out, next, place as u64);

@@ -14,6 +14,7 @@ pub use records::crash_first;
 pub use records::fresh;
 pub use records::wake;
 pub use said::entry_of;
+pub use step::number_of;
 pub use step::open_row;
 pub use step::step_of;
 

@@ -29,7 +29,8 @@ ghost use Rattle.machine.specs.Steps.{decide, stepTurn};
 ghost use Rattle.machine.specs.Records.{rowOpen};
 ghost use Rattle.machine.specs.Reach.{Reach, Ready};
 
-fn number_of(stage: Stage) -> u8
+// The place of a stage in the list A1 to A6, V1 to V6.
+pub fn number_of(stage: Stage) -> u8
     ensures { λ r. ⌜ r ≡ stageNumber stage ⌝ }
 {
     match stage {

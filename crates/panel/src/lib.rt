@@ -15,7 +15,7 @@ use records::held;
 use records::take;
 use runfile::Header;
 ghost use Rattle.panel.specs.Key.{keyed};
-ghost use Rattle.panel.specs.Press.{Leaves};
+ghost use Rattle.panel.specs.Press.{Leaves, numberOfWhy};
 ghost use mathlib.Core.Path.{_≡_};
 
 // Why a key is refused.
@@ -56,6 +56,20 @@ pub struct Stepped {
 pub struct After {
     pub processes: [Process; 16],
     pub outcome: Outcome,
+}
+
+// The number that the request gives a refusal.
+pub fn number_of(why: Why) -> u32
+    ensures { λ r. ⌜ r ≡ numberOfWhy why ⌝ }
+{
+    match why {
+        Why::File(refusal) => runfile::number_of(refusal),
+        Why::Words => 13,
+        Why::Log => 14,
+        Why::Answers => 15,
+        Why::Record => 21,
+        Why::Key => 22,
+    }
 }
 
 // The table that `press` left, by a function of its own: in a proof by hand, as that of `key`, a field that is an array

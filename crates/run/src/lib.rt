@@ -2,7 +2,7 @@
 mod load;
 mod schedule;
 
-use load::load_words;
+pub use load::load_words;
 use runfile::Checked;
 use runfile::Header;
 use runfile::Refusal;

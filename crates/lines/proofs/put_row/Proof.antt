@@ -52,9 +52,6 @@ loop-less c = search needs
 loop-again : tie.Need-loop-again Inv-loop μ-loop
 loop-again c = search needs
 
-put-requires : tie.Need-put-requires Inv-loop μ-loop
-put-requires c κs = search needs
-
 same-length : tie.Need-same-length Inv-loop μ-loop
 same-length c = search needs
 
@@ -80,6 +77,5 @@ put-row-spec =
     add-k
     loop-less
     loop-again
-    put-requires
     same-length
     returns-3)

@@ -28,6 +28,9 @@ mul-put-row c = search needs
 put-row-requires : tie.Need-put-row-requires Inv-loop μ-loop
 put-row-requires c κs = search needs
 
+put-requires : tie.Need-put-requires Inv-loop μ-loop
+put-requires c κs = search needs
+
 add-k : tie.Need-add-k Inv-loop μ-loop
 add-k c = search needs
 
@@ -54,6 +57,7 @@ put-rows-spec =
     returns
     mul-put-row
     put-row-requires
+    put-requires
     add-k
     loop-less
     loop-again
