@@ -1,0 +1,44 @@
+-- `start_words` meets its contract: a file that is accepted has at most sixteen words, and they stand in it.
+-- Assumes nothing.
+use Prim.Native.Nat.{ℕ}
+use native.Mathlib.Omega.{arith}
+use lib.Seq.{length-take-le}
+use lib.ListN.{length, take, replicate}
+use mathlib.Core.Path.{_≡_, sym}
+use borrow.Author.Needs.{needs}
+use Rattle.bench_panel.proofs.start_words.Statement.{statement}
+use Rattle.bench_panel.proofs.start_words.Tie as tie
+
+-- the part that is lent has as many numbers as the file has words
+part-size : (c : tie.After-index8) → length (take {A = ℕ} (c .index8 .result) (replicate {A = ℕ} 16 0)) ≡ c .index8 .result
+part-size c = length-take-le _ _ (let e = c .index8 .ensures .0 in let l = c .before .before .pre .head .words in omega arith)
+
+index8-requires : tie.Need-index8-requires
+index8-requires c κs = search needs
+
+array-borrow-prefix-words : tie.Need-array-borrow-prefix-words
+array-borrow-prefix-words c = search needs
+
+slice-aggregate-load-words : tie.Need-slice-aggregate-load-words
+slice-aggregate-load-words c = sym (part-size (c .before))
+
+load-words-requires : tie.Need-load-words-requires
+load-words-requires c κs =
+    let size = part-size (c .before) in
+    let l = c .before .before .before .pre in
+    let whole = l .head .exact in
+    let e = c .before .index8 .ensures .0 in
+    omega arith
+
+returns : tie.Need-returns
+returns c = search needs
+
+pub start-words-spec : {M : Type 1} → statement M
+start-words-spec =
+    tie.close
+    (tie.spec
+    index8-requires
+    array-borrow-prefix-words
+    slice-aggregate-load-words
+    load-words-requires
+    returns)

@@ -1,0 +1,221 @@
+// The bench panel: the argument names a run file, keys come in on standard input, one a line, and what each key changed
+// goes out as lines of text. docs/PANEL.md has the lines.
+//
+// A key is carried out by `panel::key_on_table`, which is proved to do what one byte of a run does. Nothing is stepped
+// here; what changed is read off the bench before the key and the bench after it.
+mod changes;
+mod record;
+mod typed;
+
+use changes::put_changes;
+use lines::put;
+use lines::put_name;
+use lines::put_number;
+use machine::Process;
+use panel::Outcome;
+use runfile::Checked;
+use runfile::Header;
+use runfile::Room;
+use typed::Entry;
+ghost use Rattle.runfile.specs.Lawful.{Lawful};
+ghost use Rattle.panel.specs.Press.{ample};
+
+// The bench between two keys: the records, the words, the position of the next key, and how many rows stand in the log
+// and in the answers. The rows themselves stand in two buffers that are lent.
+pub struct Bench {
+    pub processes: [Process; 16],
+    pub words: [u32; 16],
+    pub position: usize,
+    pub log: usize,
+    pub answers: usize,
+}
+
+// Puts what a byte does. A byte of high four bits that are no action has none.
+fn put_action(out: &mut [u8], at: usize, byte: u8) -> usize {
+    let q = (byte % 16) as u64;
+    match byte / 16 {
+        0 => {
+            let named = put_name(out, at, b" step");
+            put_number(out, named, q)
+        }
+        1 => {
+            let named = put_name(out, at, b" crash");
+            put_number(out, named, q)
+        }
+        2 => {
+            let named = put_name(out, at, b" wake");
+            put_number(out, named, q)
+        }
+        15 => put_name(out, at, b" crash all"),
+        3..=14 => put_name(out, at, b" none"),
+        _ => put_name(out, at, b" none"),
+    }
+}
+
+// Puts the first line of a key: its position, the byte in hex, and what it does.
+fn put_key(out: &mut [u8], position: usize, byte: u8) -> usize {
+    let mut digits = [0u8; 16];
+    let count = io::hex(byte as u64, 2, &mut digits);
+    let mut next = put_name(out, 0, b"key");
+    next = put_number(out, next, position as u64);
+    next = put(out, next, b' ');
+    next = put_name(out, next, &digits[..count]);
+    next = put_action(out, next, byte);
+    put(out, next, b'\n')
+}
+
+// Carries out a key, and writes its lines. The bench stays as it is where the key is refused.
+fn press(
+    out: &mut [u8],
+    file: &[u8],
+    bench: Bench,
+    log: &mut [u32],
+    answers: &mut [u32],
+    byte: u8,
+) -> Bench {
+    let processes = bench.processes;
+    let mut words = bench.words;
+    let position = bench.position;
+    let after = panel::key_on_table(
+        file,
+        processes,
+        &mut words,
+        log,
+        answers,
+        byte,
+        position,
+        bench.log,
+        bench.answers,
+    );
+    let next = put_key(out, position, byte);
+    let outcome = after.outcome;
+    match outcome {
+        Outcome::Refused(why, place) => {
+            let end = lines::put_refusal(out, next, panel::number_of(why), place);
+            lines::write_text(out, end);
+            bench
+        }
+        Outcome::Went {
+            log: log_rows,
+            answers: answer_rows,
+        } => {
+            let processes_now = after.processes;
+            let later = position + 1;
+            let bench_now = Bench {
+                processes: processes_now,
+                words,
+                position: later,
+                log: log_rows,
+                answers: answer_rows,
+            };
+            let end = put_changes(out, next, byte, bench, bench_now, log, answers);
+            lines::write_text(out, end);
+            bench_now
+        }
+    }
+}
+
+// Does what a line of standard input asks for.
+fn take_entry(
+    out: &mut [u8],
+    file: &[u8],
+    bench: Bench,
+    log: &mut [u32],
+    answers: &mut [u32],
+    entry: Entry,
+) -> Bench {
+    match entry {
+        Entry::Nothing => bench,
+        Entry::NotAKey => {
+            io::write_all(1, b"not a key\n");
+            bench
+        }
+        Entry::Key(byte) => press(out, file, bench, log, answers, byte),
+    }
+}
+
+// Takes line after line. After 2^64 - 1 of them the panel is closed, since every Rattle program ends.
+fn take_lines(file: &[u8], first: Bench, out: &mut [u8], log: &mut [u32], answers: &mut [u32]) {
+    let mut bench = first;
+    let mut left = u64::MAX;
+    while left > 0 {
+        let typed = typed::read_line();
+        let entry = typed.entry;
+        bench = take_entry(out, file, bench, log, answers, entry);
+        left -= 1;
+        if typed.is_last {
+            left = 0;
+        }
+    }
+}
+
+// The words that the file starts from.
+fn start_words(file: &[u8], header: Header) -> [u32; 16]
+    requires { ⌜ Lawful header (now file) ample ⌝ }
+{
+    let count = runfile::index8(header.words);
+    let mut words = [0u32; 16];
+    run::load_words(file, &mut words[..count]);
+    words
+}
+
+// The panel over a file that is accepted: all processes idle, nothing logged and nothing answered.
+fn start(file: &[u8], words: [u32; 16], count: usize) {
+    // Room for the lines of a key, whatever it changes: one of at most 23 bytes; six of at most 32 for each of sixteen
+    // processes; one of 20 for each of sixteen words; a log row of 32 and an answer row of 27.
+    let mut out = [0u8; 4096];
+    // 1,024 rows of each kind: a key at a position over 1,023 is refused, and a key adds one row at most.
+    let mut log = [0u32; 5120];
+    let mut answers = [0u32; 5120];
+    let idle = machine::fresh();
+    let bench = Bench {
+        processes: [idle; 16],
+        words,
+        position: 0,
+        log: 0,
+        answers: 0,
+    };
+    let next = lines::put_header(&mut out, 0, file);
+    let end = lines::put_words(&mut out, next, &words, count);
+    lines::write_text(&out, end);
+    take_lines(file, bench, &mut out, &mut log, &mut answers);
+}
+
+// Judges the file, with room for any run, as the panel does at each key.
+fn open(file: &[u8]) {
+    let room = Room {
+        words: 16,
+        log: 5120,
+        answers: 5120,
+    };
+    match runfile::check(file, room) {
+        Checked::Refused(why, place) => {
+            let mut out = [0u8; 64];
+            let end = lines::put_refusal(&mut out, 0, runfile::number_of(why), place);
+            lines::write_text(&out, end);
+        }
+        Checked::Accepted(header) => {
+            let words = start_words(file, header);
+            start(file, words, runfile::index8(header.words));
+        }
+    }
+}
+
+fn main() {
+    let mut path = io::buffer();
+    let length = os::arg(1, &mut path);
+    if os::errno() != 0 {
+        os::fail(b"panel: the run file's name");
+        return;
+    }
+    let fd = os::open_read(&path[..length]);
+    if fd < 0 {
+        os::fail(&path[..length]);
+        return;
+    }
+    // As in `swr`: one byte more than the longest run file has decides on every longer one.
+    let mut file = [0u8; 5196];
+    let n = io::read_full(fd, &mut file);
+    libc::close(fd);
+    open(&file[..n]);
+}
