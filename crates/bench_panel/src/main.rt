@@ -1,8 +1,8 @@
 // The bench panel: the argument names a run file, keys come in on standard input, one a line, and what each key changed
 // goes out as lines of text. docs/PANEL.md has the lines.
 //
-// A key is carried out by `panel::key_on_table`, which is proved to do what one byte of a run does. Nothing is stepped
-// here; what changed is read off the bench before the key and the bench after it.
+// A key is carried out by `panel::key_on_table`, which is proved against the machine's own step. Nothing is stepped here;
+// what changed is read off the bench before the key and the bench after it.
 mod changes;
 mod record;
 mod typed;
@@ -28,6 +28,12 @@ pub struct Bench {
     pub position: usize,
     pub log: usize,
     pub answers: usize,
+}
+
+// The bench after a key, and what the key came to.
+struct Pressed {
+    bench: Bench,
+    outcome: Outcome,
 }
 
 // Puts what a byte does. A byte of high four bits that are no action has none.
@@ -64,15 +70,8 @@ fn put_key(out: &mut [u8], position: usize, byte: u8) -> usize {
     put(out, next, b'\n')
 }
 
-// Carries out a key, and writes its lines. The bench stays as it is where the key is refused.
-fn press(
-    out: &mut [u8],
-    file: &[u8],
-    bench: Bench,
-    log: &mut [u32],
-    answers: &mut [u32],
-    byte: u8,
-) -> Bench {
+// Carries out a key, at the next position. Where it is refused the bench stays as it is.
+fn carry_out(file: &[u8], bench: Bench, log: &mut [u32], answers: &mut [u32], byte: u8) -> Pressed {
     let processes = bench.processes;
     let mut words = bench.words;
     let position = bench.position;
@@ -87,17 +86,12 @@ fn press(
         bench.log,
         bench.answers,
     );
-    let next = put_key(out, position, byte);
     let outcome = after.outcome;
     match outcome {
-        Outcome::Refused(why, place) => {
-            let end = lines::put_refusal(out, next, panel::number_of(why), place);
-            lines::write_text(out, end);
-            bench
-        }
+        Outcome::Refused(_, _) => Pressed { bench, outcome },
         Outcome::Went {
-            log: log_rows,
-            answers: answer_rows,
+            log: log_now,
+            answers: answers_now,
         } => {
             let processes_now = after.processes;
             let later = position + 1;
@@ -105,14 +99,52 @@ fn press(
                 processes: processes_now,
                 words,
                 position: later,
-                log: log_rows,
-                answers: answer_rows,
+                log: log_now,
+                answers: answers_now,
             };
-            let end = put_changes(out, next, byte, bench, bench_now, log, answers);
-            lines::write_text(out, end);
-            bench_now
+            Pressed {
+                bench: bench_now,
+                outcome,
+            }
         }
     }
+}
+
+// Puts the lines behind the first: the refusal, or what changed.
+fn put_outcome(
+    out: &mut [u8],
+    at: usize,
+    byte: u8,
+    before: Bench,
+    pressed: Pressed,
+    log: &[u32],
+    answers: &[u32],
+) -> usize {
+    let outcome = pressed.outcome;
+    match outcome {
+        Outcome::Refused(why, place) => lines::put_refusal(out, at, panel::number_of(why), place),
+        Outcome::Went { log: _, answers: _ } => {
+            let after = pressed.bench;
+            put_changes(out, at, byte, before, after, log, answers)
+        }
+    }
+}
+
+// Carries out a key, and writes its lines.
+fn press(
+    out: &mut [u8],
+    file: &[u8],
+    bench: Bench,
+    log: &mut [u32],
+    answers: &mut [u32],
+    byte: u8,
+) -> Bench {
+    let pressed = carry_out(file, bench, log, answers, byte);
+    let next = put_key(out, bench.position, byte);
+    let end = put_outcome(out, next, byte, bench, pressed, log, answers);
+    lines::write_text(out, end);
+    let bench_now = pressed.bench;
+    bench_now
 }
 
 // Does what a line of standard input asks for.
@@ -161,8 +193,8 @@ fn start_words(file: &[u8], header: Header) -> [u32; 16]
 
 // The panel over a file that is accepted: all processes idle, nothing logged and nothing answered.
 fn start(file: &[u8], words: [u32; 16], count: usize) {
-    // Room for the lines of a key, whatever it changes: one of at most 23 bytes; six of at most 32 for each of sixteen
-    // processes; one of 20 for each of sixteen words; a log row of 32 and an answer row of 27.
+    // Room for the lines of a key, whatever it changes: a first line of at most 22 bytes; six of at most 30 for each of
+    // sixteen processes; one of 20 for each of sixteen words; a log row of 32 and an answer row of 27. That is 3,281 bytes.
     let mut out = [0u8; 4096];
     // 1,024 rows of each kind: a key at a position over 1,023 is refused, and a key adds one row at most.
     let mut log = [0u32; 5120];
