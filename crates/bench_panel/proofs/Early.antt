@@ -4,16 +4,16 @@ use Prim.Native.Nat.{ℕ, _≤_}
 use mathlib.Core.Path.{_≡_, refl}
 use mathlib.Core.List.{List}
 use native.Mathlib.Omega.{arith}
+use lib.ListN.{length}
 use Rattle.machine.specs.declared.Process.{Process}
 use Rattle.panel.specs.declared.Outcome.{Outcome}
 use Rattle.panel.specs.declared.Outcome.the-variants.{Went, Refused}
 use Rattle.panel.specs.declared.Verdict.{Verdict}
 use Rattle.panel.specs.declared.Verdict.the-variants.{Fine, Not}
 use Rattle.panel.specs.declared.Why.{Why}
-use Rattle.panel.specs.Laid.{blank, laid}
 use Rattle.panel.specs.Press.{Pressing, Lent, pressing, lent, verdictOf, pressedAs, pressed}
-use Rattle.panel.specs.Key.{heldOf, keyed}
-use Rattle.panel.proofs.Fits.{fit}
+use Rattle.panel.specs.Key.{keyed}
+use Rattle.panel.specs.Fits.{fit}
 
 not-went : {why : Why} {at m n : ℕ} → Refused why at ≡ Went m n → ⊥
 not-went e = let z : _≡_ {A = ℕ} 0 1 = cc in omega arith
@@ -27,4 +27,4 @@ pub early : (file : List ℕ) (records : List Process) (words log answers : List
     → keyed file records words log answers byte position logRows answerRows .outcome ≡ Went logRows′ answerRows′ → position ≤ 1023
 unfolding keyed pressed
 early file records words log answers byte position logRows answerRows logRows′ answerRows′ e =
-    went file (heldOf records) (pressing byte position logRows answerRows) (lent (laid (heldOf records) records blank) words log answers) _ logRows′ answerRows′ refl e
+    went file (length records) (pressing byte position logRows answerRows) (lent records words log answers) _ logRows′ answerRows′ refl e
