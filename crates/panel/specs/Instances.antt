@@ -1,14 +1,14 @@
 -- The definitions of a key at records and keys, by computation: of each condition of 21 a record that meets it and one beside it that does not;
--- and the order of the refusals.
+-- the order of the refusals; and bench case f, key after key.
 -- Assumes nothing.
-use Prim.Native.Nat.{ℕ}
+use Prim.Native.Nat.{ℕ, _+_, _*_}
 use mathlib.Core.Path.{_≡_, refl}
 use mathlib.Core.Bool.{true, false}
 use mathlib.Core.List.{List, [], _∷_, map}
 use lib.ListN.{replicate}
 use Rattle.runfile.specs.declared.Row.{Row}
 use Rattle.runfile.specs.Layout.{u16At, marked, headerIn, rowAt}
-use Rattle.runfile.specs.Operations.{rowsFrom, tableOf, rowNumbered, first, count}
+use Rattle.runfile.specs.Operations.{rowsFrom, tableOf, rowNumbered, first, count, names}
 use Rattle.runfile.specs.Refusals.{badField, sameFields, badByte, firstBadField, firstRow, firstLaterRow, firstByte, refusalOf}
 use Rattle.machine.specs.declared.Process.{Process}
 use Rattle.machine.specs.declared.Stage.the-variants.{A1, A2, A5, A6, V2, V3, V5}
@@ -20,12 +20,19 @@ use Rattle.machine.specs.declared.Opened.the-variants.{Nothing as Closed, Row a
 use Rattle.machine.specs.declared.Stage.{Stage}
 use Rattle.machine.specs.declared.Status.{Status}
 use Rattle.machine.specs.declared.Status.the-variants.{Down, Idle, N2, N3, Busy}
+use Rattle.word.specs.Word.{bitOf, turnOf, valueIn, flipsIn, bitIn, swappedIn}
+use Rattle.rows.specs.Entries.{isTrue}
+use Rattle.rows.specs.Log.{onePast, place, insert, isSwap, firstSwap}
+use Rattle.rows.specs.Buffers.{five, entryAt, infront}
 use Rattle.machine.specs.Records.{fresh}
+use Rattle.machine.specs.Steps.{spoken, tried, storing, decide, stepTurn}
+use Rattle.machine.specs.Machine.{turn, apply, applied, procAt, act, step}
 use Rattle.panel.specs.declared.Outcome.{Outcome}
 use Rattle.panel.specs.declared.Outcome.the-variants.{Went, Refused}
 use Rattle.panel.specs.Possible.{misplaced, misdone, impossible, anyImpossible}
-use Rattle.panel.specs.Press.{numberOfWhy, judged, verdictOf, pressed}
+use Rattle.panel.specs.Press.{numberOfWhy, judged, verdictOf, stateOf, stepped, Pressed, pressed}
 use Rattle.panel.specs.Key.{keyed}
+use Rattle.panel.specs.Through.{stepping, ready}
 
 -- process 0 reads word 0, and then moves it from 7 to 8
 abbrev rows : List Row
@@ -129,3 +136,22 @@ pub in-order :
     ≡ 2 ∷ 13 ∷ 13 ∷ 14 ∷ 14 ∷ 15 ∷ 21 ∷ 21 ∷ 22 ∷ 22 ∷ 22 ∷ 0 ∷ []
 unfolding keyed pressed verdictOf judged refusalOf headerIn u16At marked rowAt badField sameFields badByte firstBadField firstRow firstLaterRow firstByte tableOf rowsFrom anyImpossible impossible misplaced misdone rowNumbered first count
 in-order = refl
+
+-- bench case f, key after key: two rows in the log, the swap of process 1 and behind it the one that lost to it, and one answer
+abbrev keys : List ℕ
+keys = 0 ∷ 0 ∷ 0 ∷ 0 ∷ 1 ∷ 1 ∷ 1 ∷ 1 ∷ 1 ∷ 1 ∷ 1 ∷ 0 ∷ 0 ∷ 0 ∷ 0 ∷ 0 ∷ []
+
+abbrev caseF : List ℕ
+caseF =
+    83 ∷ 87 ∷ 82 ∷ 1 ∷ 0 ∷ 2 ∷ 1 ∷ 2 ∷ 0 ∷ 16 ∷ 0 ∷ 7 ∷ 0 ∷ 0 ∷ 0 ∷ 0 ∷ 1 ∷ 0 ∷ 0 ∷ 7 ∷ 0 ∷ 8 ∷ 0 ∷ 1 ∷ 1 ∷ 0 ∷ 0 ∷ 7 ∷ 0 ∷ 9 ∷ 0 ∷ keys
+
+abbrev ended : Pressed
+ended = stepping caseF 0 keys (ready idle (7 ∷ []) (replicate 80 99) (replicate 80 99))
+
+pub f-stepped :
+    (ended .outcome ≡ Went 2 1)
+    × (ended .words ≡ (9 + 2 * 65536) ∷ [])
+    × (ended .log ≡ 10 ∷ 1 ∷ 1 ∷ 1 ∷ 0 ∷ 10 ∷ 0 ∷ 0 ∷ 0 ∷ 0 ∷ replicate 70 99)
+    × (ended .answers ≡ 15 ∷ 0 ∷ 0 ∷ 0 ∷ 0 ∷ replicate 75 99)
+unfolding keyed pressed verdictOf judged refusalOf headerIn u16At marked rowAt badField sameFields badByte firstBadField firstRow firstLaterRow firstByte tableOf rowsFrom anyImpossible impossible misplaced misdone rowNumbered first count stepping stepped stateOf names bitOf turnOf valueIn flipsIn bitIn swappedIn isTrue onePast place insert isSwap firstSwap five entryAt infront spoken tried storing decide stepTurn turn apply applied procAt act step
+f-stepped = (refl, refl, refl, refl)
