@@ -1,7 +1,7 @@
 """The walks of `key` and `key_on_table`: slices are handed on, and come back."""
 from frame import closing, contract, known, said, stayed, write
 from names import CONTRACTS, NUMBERS, dashed, number_typed, own_number, own_table, slice_typed, table_typed
-from walk import Walk, items, local, part, sub, tuple_of, type_of
+from walk import Walk, asked, items, left, local, part, sub, tuple_of, type_of
 
 LISTS = ['file', 'records', 'words', 'log', 'answers']
 ELEMENTS = ['u8', 'R', 'u32', 'u32', 'u32']
@@ -141,43 +141,23 @@ BUFFERS = ' '.join(f'({part("vs", k)})' for k in [3, 4, 5])
 
 
 def key_exit():
-    e = Walk([f'token{k}' for k in ALL] + ['own0'] + [f'last{k}' for k in [1, 2, 3, 4]] + ['result'], 0, 6)
-    e.tokens([f'token{k}' for k in ALL])
-    e.give_up()
-    e.owning(['own0'] + [f'last{k}' for k in [1, 2, 3, 4]] + NUMBER_OWNS)
-    e.give_up()
-    e.write('done !')
-    return e.text()
+    lasts = [f'last{k}' for k in [1, 2, 3, 4]]
+    tokens = [f'token{k}' for k in ALL]
+    return left(tokens + ['own0'] + lasts + ['result'], tokens, ['own0'] + lasts + NUMBER_OWNS)
 
 
 def take_asked():
-    g = Walk(['token', 'shown'], 0, 6)
-    g.write('says ! enough $ ')
-    g.tokens(['token'])
-    g.give_up()
-    g.owning(['shown', own_number('n', 'n-fits')])
-    g.write('done !')
-    return g.text()
+    return asked(['token', 'shown'], 'enough', ['shown', own_number('n', 'n-fits')], ['token'])
 
 
 def press_asked():
-    g = Walk([f'token{k}' for k in PRESS_SLICES] + [f'own{k}' for k in PRESS_SLICES], 0, 6)
-    g.write('says ! small $ ')
-    g.tokens([f'token{k}' for k in PRESS_SLICES])
-    g.give_up()
-    g.owning(['own0', own_number('n', 'n-fits'), own_table('u', 'ut'), 'own2', 'own3', 'own4'] + NUMBER_OWNS)
-    g.write('done !')
-    return g.text()
+    tokens = [f'token{k}' for k in PRESS_SLICES]
+    owns = ['own0', own_number('n', 'n-fits'), own_table('u', 'ut'), 'own2', 'own3', 'own4'] + NUMBER_OWNS
+    return asked(tokens + [f'own{k}' for k in PRESS_SLICES], 'small', owns, tokens)
 
 
 def give_asked():
-    g = Walk(['token1', 'own1'], 0, 6)
-    g.write('says ! enough $ ')
-    g.tokens(['token1'])
-    g.give_up()
-    g.owning(['own1', own_number('n', 'n-fits'), own_table('u', 'ut')])
-    g.write('done !')
-    return g.text()
+    return asked(['token1', 'own1'], 'enough', ['own1', own_number('n', 'n-fits'), own_table('u', 'ut')], ['token1'])
 
 
 def key_enters():
@@ -416,13 +396,9 @@ ON_LEFT = [token(k) for k in OWN_SLICES] + [own_here(0)] + [last(k) for k in [2,
 
 
 def table_exit():
-    e = Walk([f'token{k}' for k in OWN_SLICES] + ['own0'] + [f'last{k}' for k in [2, 3, 4]] + ['result'], 0, 6)
-    e.tokens([f'token{k}' for k in OWN_SLICES])
-    e.give_up()
-    e.owning(['own0', own_table('processes', 'table-is')] + [f'last{k}' for k in [2, 3, 4]] + NUMBER_OWNS)
-    e.give_up()
-    e.write('done !')
-    return e.text()
+    lasts = [f'last{k}' for k in [2, 3, 4]]
+    tokens = [f'token{k}' for k in OWN_SLICES]
+    return left(tokens + ['own0'] + lasts + ['result'], tokens, ['own0', own_table('processes', 'table-is')] + lasts + NUMBER_OWNS)
 
 
 def key_asked():

@@ -1,7 +1,7 @@
 """The walks of `take` and `give`: a loop over the lent records."""
 from frame import closing, contract, known, said, stayed, triples, write
 from names import SIZE, number_typed, own_number, own_record, own_table, record_typed, slice_typed, table_typed
-from walk import Walk, items, local
+from walk import Walk, asked, items, local
 
 # 0 result, 1 records, 2 n, 3 table, 4 i, 5 process, 6 the test, 7 the place, 8 its pointer; take has 9, what is read
 TAKE_LOCALS = ['arr', 'sl', 'word', 'arr', 'word', 'T′.mir', 'tyBool', 'word', 'tyPtr', 'T′.mir']
@@ -95,12 +95,7 @@ def take_exit():
 
 
 def take_asks():
-    g = Walk(['end₀'], 0, 6)
-    g.write('says ! small $ ')
-    g.give_up()
-    g.owning([own_table('u', 'ut'), own_number('i', 'i-fits'), own_record('p', 'pt')])
-    g.write('done !')
-    return g.text()
+    return asked(['end₀'], 'small', [own_table('u', 'ut'), own_number('i', 'i-fits'), own_record('p', 'pt')])
 
 
 def take_reads():
@@ -240,12 +235,7 @@ def give_exit():
 
 
 def give_asks():
-    g = Walk(['end₀'], 0, 6)
-    g.write('says ! small $ ')
-    g.give_up()
-    g.owning([own_table('t', 't-is'), own_number('i', 'i-fits')])
-    g.write('done !')
-    return g.text()
+    return asked(['end₀'], 'small', [own_table('t', 't-is'), own_number('i', 'i-fits')])
 
 
 def give_fetches():

@@ -227,3 +227,26 @@ class Walk:
 
     def text(self):
         return re.sub(r' +\n', '\n', ''.join(self.out)) + ')' * self.opened
+
+
+def asked(held, says, owns, tokens=()):
+    """What a callee asks for: its `requires`, the tokens of the lifetimes, and what its parameters own."""
+    g = Walk(held, 0, 6)
+    g.write(f'says ! {says} $ ')
+    if tokens:
+        g.tokens(tokens)
+    g.give_up()
+    g.owning(owns)
+    g.write('done !')
+    return g.text()
+
+
+def left(held, tokens, owns):
+    """What is left at the exit: the tokens, what the parameters own, and the result, which is held last."""
+    e = Walk(held, 0, 6)
+    e.tokens(tokens)
+    e.give_up()
+    e.owning(owns)
+    e.give_up()
+    e.write('done !')
+    return e.text()
