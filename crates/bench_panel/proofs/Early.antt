@@ -6,7 +6,6 @@ use mathlib.Core.List.{List}
 use native.Mathlib.Omega.{arith}
 use lib.ListN.{length}
 use Rattle.machine.specs.declared.Process.{Process}
-use Rattle.panel.specs.declared.Outcome.{Outcome}
 use Rattle.panel.specs.declared.Outcome.the-variants.{Went, Refused}
 use Rattle.panel.specs.declared.Verdict.{Verdict}
 use Rattle.panel.specs.declared.Verdict.the-variants.{Fine, Not}

@@ -27,8 +27,8 @@ enum Line {
     Settled(Entry),
 }
 
-// The kinds of bytes in a line.
-enum Mark {
+// The kinds of characters in a line.
+enum Character {
     Blank,
     Hash,
     Digit(u8),
@@ -41,18 +41,18 @@ enum Next {
     End,
 }
 
-fn mark_of(byte: u8) -> Mark {
+fn character_of(byte: u8) -> Character {
     match byte {
-        b' ' | b'\t' | b'\r' => Mark::Blank,
-        b'#' => Mark::Hash,
-        b'0'..=b'9' => Mark::Digit(byte - b'0'),
-        b'A'..=b'F' => Mark::Digit(byte - b'A' + 10),
-        b'a'..=b'f' => Mark::Digit(byte - b'a' + 10),
-        _ => Mark::Other,
+        b' ' | b'\t' | b'\r' => Character::Blank,
+        b'#' => Character::Hash,
+        b'0'..=b'9' => Character::Digit(byte - b'0'),
+        b'A'..=b'F' => Character::Digit(byte - b'A' + 10),
+        b'a'..=b'f' => Character::Digit(byte - b'a' + 10),
+        _ => Character::Other,
     }
 }
 
-// What a line is that ends here, or where its remark begins.
+// What a line is that ends here, or whose `#` stands here.
 fn entry_of(line: Line) -> Entry {
     match line {
         Line::Blank => Entry::Nothing,
@@ -63,6 +63,7 @@ fn entry_of(line: Line) -> Entry {
     }
 }
 
+// The line with one character more.
 fn with_blank(line: Line) -> Line {
     match line {
         Line::Blank => Line::Blank,
@@ -95,11 +96,11 @@ fn with_other(line: Line) -> Line {
 }
 
 fn with_byte(line: Line, byte: u8) -> Line {
-    match mark_of(byte) {
-        Mark::Blank => with_blank(line),
-        Mark::Hash => Line::Settled(entry_of(line)),
-        Mark::Digit(digit) => with_digit(line, digit),
-        Mark::Other => with_other(line),
+    match character_of(byte) {
+        Character::Blank => with_blank(line),
+        Character::Hash => Line::Settled(entry_of(line)),
+        Character::Digit(digit) => with_digit(line, digit),
+        Character::Other => with_other(line),
     }
 }
 
