@@ -3,8 +3,8 @@
 use mathlib.Core.Path.{_≡_, refl}
 use mathlib.Core.List.{List, [], _∷_, _++_}
 use mathlib.Core.Bool.{Bool, true, false, cond}
-use Prim.Native.Nat.{ℕ, suc, _+_, _*_, _≤_, _<_}
-use native.Mathlib.Numerals.{add-one}
+use Prim.Native.Nat.{ℕ, zero, suc, _-_, _*_, _≤_, _<_}
+use native.Mathlib.Omega.{arith}
 use lib.Dec.{leb}
 use lib.ListN.{length, getD}
 use borrow.Author.Tests.{le-leb, lt-leb}
@@ -28,14 +28,15 @@ unfolding place
 place-snoc q [] e = at-end (leb (e .position) q)
 place-snoc q (f ∷ log) e = rw (place-snoc q log e) (one-more (leb (f .position) q) (leb (e .position) q) (length log) (place q log))
 
--- one turn of the loop
-module _ (q i : ℕ) (xs : List ℕ) where
-  turn : place q (rowsOf (i + 1) xs) ≡ cond (leb (getD xs (i * 5) 0) q) (i + 1) (place q (rowsOf i xs))
+-- one turn of the loop, at the last of n rows
+module _ (q : ℕ) (xs : List ℕ) where
+  turn : (n : ℕ) → 0 < n → place q (rowsOf n xs) ≡ cond (leb (getD xs ((n - 1) * 5) 0) q) n (place q (rowsOf (n - 1) xs))
   unfolding entryAt
-  turn = rw (add-one, place-snoc, length-rowsOf i xs)
+  turn zero some = absurd (omega arith)
+  turn (suc n) some = let last : suc n - 1 ≡ n = omega arith in rw (last, place-snoc, length-rowsOf n xs)
 
-  pub place-took : getD xs (i * 5) 0 ≤ q → place q (rowsOf (i + 1) xs) ≡ i + 1
-  place-took h = rw (turn, le-leb (getD xs (i * 5) 0) q h)
+  pub place-took : (n : ℕ) → 0 < n → getD xs ((n - 1) * 5) 0 ≤ q → place q (rowsOf n xs) ≡ n
+  place-took n some h = rw (turn n some, le-leb (getD xs ((n - 1) * 5) 0) q h)
 
-  pub place-kept : q < getD xs (i * 5) 0 → place q (rowsOf (i + 1) xs) ≡ place q (rowsOf i xs)
-  place-kept h = rw (turn, lt-leb (getD xs (i * 5) 0) q h)
+  pub place-kept : (n : ℕ) → 0 < n → q < getD xs ((n - 1) * 5) 0 → place q (rowsOf n xs) ≡ place q (rowsOf (n - 1) xs)
+  place-kept n some h = rw (turn n some, lt-leb (getD xs ((n - 1) * 5) 0) q h)

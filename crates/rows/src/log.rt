@@ -11,20 +11,21 @@ ghost use Rattle.rows.specs.Buffers.{entryAt, shifted};
 ghost use Rattle.rows.specs.Promises.{Places, FirstSwapped, Inserted};
 
 // The place of a new row among the first `rows` rows: one past the last of equal or smaller position, 0 if
-// there is none. The log need not be in order, so every row is looked at.
+// there is none. Nearly every row belongs at the end, so the search begins with the last row; the rows behind
+// the first that it finds are all of larger position, whatever the order of the log.
 pub fn place_of(log: &[u32], rows: usize, position: u32) -> usize
     requires { ⌜ rows * 5 ≤ length (now log) ⌝ }
     ensures { λ r. ⌜ Places (now (log .entry)) rows position r ⌝ }
 {
-    let mut place = 0;
-    let mut i = 0;
-    while i < rows {
-        if log[i * 5] <= position {
-            place = i + 1;
+    let mut place = rows;
+    while 0 < place {
+        let last = place - 1;
+        if log[last * 5] <= position {
+            return place;
         }
-        i += 1;
+        place = last;
     }
-    place
+    0
 }
 
 // Moves the first `count` numbers of a part of the log up by one row, from the last to the first, so that none

@@ -1,32 +1,33 @@
--- `place_of` meets its contract. Invariant: `place` is the place among the first i rows, and at most i. Measure: the rows left.
+-- `place_of` meets its contract. Invariant: the place among the first `place` rows is the place among all, since every row behind them is of
+-- larger position. Measure: the rows still to be looked at.
 -- Assumes nothing.
 use borrow.Author.Needs.{needs}
-use mathlib.Core.Path.{_≡_, refl, sym, _∙_}
-use mathlib.Core.Logic.{⊎-elim}
+use mathlib.Core.Path.{_≡_, refl, _∙_, sym}
 use mathlib.Core.List.{List}
-use Prim.Native.Nat.{ℕ, _≤_, _-_}
+use Prim.Native.Nat.{ℕ, _≤_}
 use native.Mathlib.Omega.{arith}
 use denote.Ref.{now}
-use Rattle.rows.specs.Log.{place}
+use Rattle.rows.specs.Log as log
 use Rattle.rows.specs.Buffers.{rowsOf}
 use Rattle.rows.proofs.Place.{place-took, place-kept}
 use Rattle.rows.proofs.log.place_of.Statement.{statement}
 use Rattle.rows.proofs.log.place_of.Tie as tie
 
-record Searched (log : List ℕ) (rows position best i : ℕ) : Type 0 where
-  within : i ≤ rows
-  passed : best ≤ i
-  found : best ≡ place position (rowsOf i log)
+record Searched (buffer : List ℕ) (rows position n : ℕ) : Type 0 where
+  within : n ≤ rows
+  same : log.place position (rowsOf rows buffer) ≡ log.place position (rowsOf n buffer)
 
 abbrev Inv-loop : tie.InvT-loop
-Inv-loop log rows position place₀ i₀ best i = Searched log rows position best i
+Inv-loop buffer rows position place₀ place = Searched buffer rows position place
 
 abbrev μ-loop : tie.MeasureT-loop
-μ-loop log rows position place₀ i₀ best i = rows - i
+μ-loop buffer rows position place₀ place = place
 
 loop-holds : tie.Need-loop-holds Inv-loop μ-loop
-unfolding place
-loop-holds c = record { within = search needs; passed = search needs; found = refl }
+loop-holds c = record { within = search needs; same = refl }
+
+sub-last : tie.Need-sub-last Inv-loop μ-loop
+sub-last c = search needs
 
 mul-if1 : tie.Need-mul-if1 Inv-loop μ-loop
 mul-if1 c = search needs
@@ -37,11 +38,11 @@ mul-if1-2 c = search needs
 shared-slice-read-if1 : tie.Need-shared-slice-read-if1 Inv-loop μ-loop
 shared-slice-read-if1 c = search needs
 
-add-place : tie.Need-add-place Inv-loop μ-loop
-add-place c = search needs
-
-add-i : tie.Need-add-i Inv-loop μ-loop
-add-i c = search needs
+returns : tie.Need-returns Inv-loop μ-loop
+returns c =
+    let l = c .before .before .before in
+    let a = l .before .args in
+    record { result = sym (l .loop .inv .same ∙ place-took (a .position) (now (a .log)) (l .loop .place) (omega arith) (omega arith)); within = l .loop .inv .within }
 
 loop-less : tie.Need-loop-less Inv-loop μ-loop
 loop-less c = search needs
@@ -50,17 +51,14 @@ loop-again : tie.Need-loop-again Inv-loop μ-loop
 loop-again c =
     let l = c .before .before .before in
     let a = l .before .args in
-    ⊎-elim
-    (λ w. record { within = omega arith; passed = omega arith; found = w .1 ∙ sym (place-took (a .position) (l .loop .i) (now (a .log)) (omega (arith, w .0 .taken))) })
-    (λ w.
-    record { within = omega arith; passed = omega arith; found = w .1 ∙ (l .loop .inv .found ∙ sym (place-kept (a .position) (l .loop .i) (now (a .log)) (omega (arith, w .0 .left)))) })
-    (c .if1 .came)
+    record { within = omega arith; same = l .loop .inv .same ∙ place-kept (a .position) (now (a .log)) (l .loop .place) (omega arith) (omega arith) }
 
-returns : tie.Need-returns Inv-loop μ-loop
-returns c =
+returns-2 : tie.Need-returns-2 Inv-loop μ-loop
+unfolding log.place
+returns-2 c =
     let l = c .before in
-    let e : l .loop .i ≡ l .before .args .rows = omega arith in
-    record { result = rw e at (l .loop .inv .found); within = omega arith }
+    let e : l .loop .place ≡ 0 = omega arith in
+    record { result = sym (rw e at (l .loop .inv .same)); within = omega arith }
 
 pub place-of-spec : {M : Type 1} → statement M
 place-of-spec =
@@ -69,11 +67,11 @@ place-of-spec =
     Inv-loop
     μ-loop
     loop-holds
+    sub-last
     mul-if1
     mul-if1-2
     shared-slice-read-if1
-    add-place
-    add-i
+    returns
     loop-less
     loop-again
-    returns)
+    returns-2)
