@@ -18,7 +18,7 @@ use crate::Ending;
 use draft::Draft;
 use random::Random;
 use scenes::Mood;
-use valid::{fullest_draft, long_draft, quiet_draft, short_draft, valid_draft};
+use valid::{fullest_draft, long_draft, quiet_draft, reading_draft, short_draft, valid_draft};
 
 /// What sort of files a stream has.
 #[derive(Clone, Copy)]
@@ -32,6 +32,8 @@ pub enum Flavour {
     ManyLost,
     /// Valid files with the longest schedule that answer nothing.
     Quiet,
+    /// Valid files with the longest schedule, all of reads: a long log.
+    Reads,
 }
 
 impl Flavour {
@@ -42,6 +44,7 @@ impl Flavour {
             "few" => Some(Flavour::FewLost),
             "many" => Some(Flavour::ManyLost),
             "quiet" => Some(Flavour::Quiet),
+            "reads" => Some(Flavour::Reads),
             _ => None,
         }
     }
@@ -56,6 +59,7 @@ impl Flavour {
             Flavour::FewLost => exact_record(long_draft(Mood::Calm, random)),
             Flavour::ManyLost => exact_record(long_draft(Mood::Racing, random)),
             Flavour::Quiet => exact_record(quiet_draft(random)),
+            Flavour::Reads => exact_record(reading_draft(random)),
         }
     }
 }
@@ -170,15 +174,28 @@ mod tests {
         assert_ne!(records(3), records(4));
     }
 
-    #[test]
-    fn a_quiet_file_runs_and_answers_nothing() {
-        let record = Flavour::Quiet.record(&mut Random::seeded(5));
+    /// The first words of the lines that a file of a flavour comes to.
+    fn line_names(flavour: Flavour) -> Vec<String> {
+        let record = flavour.record(&mut Random::seeded(5));
         let mut printed = Vec::new();
         crate::sweep::print_record(&record, &mut printed).unwrap();
         let printed = String::from_utf8(printed).unwrap();
         let names = |line: &str| line.split(' ').next().unwrap().to_string();
-        let lines: Vec<String> = printed.lines().map(names).collect();
-        assert_eq!(lines, ["run", "word", "sum"]);
+        printed.lines().map(names).collect()
+    }
+
+    #[test]
+    fn a_quiet_file_runs_and_answers_nothing() {
+        assert_eq!(line_names(Flavour::Quiet), ["run", "word", "sum"]);
+    }
+
+    /// A read takes six steps, of which the fifth logs it: 1,024 are 170 and
+    /// four over.
+    #[test]
+    fn reads_make_a_long_log() {
+        let names = line_names(Flavour::Reads);
+        let count = |name: &str| names.iter().filter(|other| *other == name).count();
+        assert_eq!((count("log"), count("answer")), (170, 170));
     }
 
     /// The generator's valid files are valid: each has an outcome that is no

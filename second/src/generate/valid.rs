@@ -8,6 +8,8 @@ use super::script::{Size, SHORT_STEPS, STEPS_TO_A3};
 const MOST: usize = 16;
 const MOST_ROWS: usize = 512;
 const LONGEST_SCHEDULE: usize = 1024;
+/// Three stores, A1, A5 and A6.
+const STEPS_OF_A_READ: usize = 6;
 
 pub fn valid_draft(random: &mut Random) -> Draft {
     let size = any_size(random);
@@ -53,6 +55,14 @@ pub fn quiet_draft(random: &mut Random) -> Draft {
     }
     schedule.truncate(LONGEST_SCHEDULE);
     Draft::honest(processes, vec![7], rows.collect(), schedule)
+}
+
+/// A file with the longest schedule in which one process reads, again and
+/// again: a row in the log for every six bytes.
+pub fn reading_draft(random: &mut Random) -> Draft {
+    let value = random.below(65_536) as u32;
+    let rows = vec![DraftRow::read(0, 0); LONGEST_SCHEDULE / STEPS_OF_A_READ + 1];
+    Draft::honest(1, vec![value], rows, vec![0; LONGEST_SCHEDULE])
 }
 
 fn draft_of(size: Size, random: &mut Random) -> Draft {
