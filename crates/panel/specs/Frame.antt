@@ -18,8 +18,8 @@ use Rattle.runfile.specs.Actions.{Action, step as steps, crash as crashes, wake
 use Rattle.runfile.specs.Operations.{tableOf, rowNumbered, first, count}
 use Rattle.runfile.specs.Refusals.{badAction, badByte, refusalOf}
 use Rattle.rows.specs.declared.Entry.{Entry}
-use Rattle.rows.specs.Buffers.{flat, infront}
-use Rattle.rows.specs.BufferLaws.{beyond, rows-same, length-flat, length-rowsOf}
+use Rattle.rows.specs.Buffers.{rowsOf, flat, infront}
+use Rattle.rows.specs.BufferLaws.{beyond, flat-append, flat-rowsOf, length-flat, length-infront, length-rowsOf, rows-same}
 use Rattle.machine.specs.declared.Process.{Process}
 use Rattle.machine.specs.declared.Status.{Status}
 use Rattle.machine.specs.declared.Turn.{Turn}
@@ -69,7 +69,10 @@ pub record Frame (h : Header) (f : List ℕ) (records : List Process) (words log
   pub all-words : length (p .words) ≡ length words
   -- numbers beyond the rows, and the answers that were there
   pub log-beyond : (i : ℕ) → logRows * 5 + 5 ≤ i → getD (p .log) i 0 ≡ getD log i 0
+  pub all-log : length (p .log) ≡ length log
   pub answers-beyond : (i : ℕ) → answerRows * 5 + 5 ≤ i → getD (p .answers) i 0 ≡ getD answers i 0
+  pub answers-before : (i : ℕ) → i < answerRows * 5 → getD (p .answers) i 0 ≡ getD answers i 0
+  pub all-answers : length (p .answers) ≡ length answers
   -- a crash or a wake: only records change
   pub only-steps : (action byte ≡ steps → ⊥) → (p .outcome ≡ Went logRows answerRows) × (p .words ≡ words) × (p .log ≡ log) × (p .answers ≡ answers)
 
@@ -162,6 +165,28 @@ module _ (h : Header) (f : List ℕ) (records : List Process) (words log answers
     unfolding stepped stateOf
     same-length = grows (tableOf h f) position byte s .words
 
+    -- the answers that were there stand in front of a new one
+    kept-answers : stepped h f k l .answers ≡ rowsOf answerRows answers ++ drop answerRows (stepped h f k l .answers)
+    unfolding stepped stateOf
+    kept-answers =
+        let u = step (tableOf h f) position byte s .answers in
+        sym (take-append-drop answerRows u)
+        ∙ ap (λ es. es ++ drop answerRows u) (ap (λ n. take n u) (sym (length-rowsOf answerRows answers)) ∙ grows (tableOf h f) position byte s .answers-kept)
+
+    before : (i : ℕ) → i < answerRows * 5 → getD (carried h f k l .answers) i 0 ≡ getD answers i 0
+    unfolding infront
+    before i g =
+        let more = drop answerRows (stepped h f k l .answers) in
+        let rest = drop (length (flat (stepped h f k l .answers))) answers in
+        let old = flat (rowsOf answerRows answers) in
+        let many : length old ≡ answerRows * 5 = length-flat (rowsOf answerRows answers) ∙ ap (λ n. n * 5) (length-rowsOf answerRows answers) in
+        let room = ft .answers-room in
+        ap (λ ns. getD (ns ++ rest) i 0) (ap flat kept-answers ∙ flat-append (rowsOf answerRows answers) more)
+        ∙ List·getD-append (old ++ flat more) rest 0 i (let e = length-append old (flat more) in omega arith)
+        ∙ List·getD-append old (flat more) 0 i (omega arith)
+        ∙ ap (λ ns. getD ns i 0) (flat-rowsOf answerRows answers (omega arith))
+        ∙ getD-take (answerRows * 5) answers i 0 g
+
     frame-carried : Frame h f records words log answers byte logRows answerRows (carried h f k l)
     frame-carried = record {
       others = other;
@@ -171,6 +196,9 @@ module _ (h : Header) (f : List ℕ) (records : List Process) (words log answers
       all-words = same-length;
       log-beyond = λ i g. beyond (flat (stepped h f k l .log)) log i (let a = counts .0 in let b = length-flat (stepped h f k l .log) in omega arith);
       answers-beyond = λ i g. beyond (flat (stepped h f k l .answers)) answers i (let a = counts .1 in let b = length-flat (stepped h f k l .answers) in omega arith);
+      answers-before = before;
+      all-log = length-infront (flat (stepped h f k l .log)) log (let a = counts .0 in let b = length-flat (stepped h f k l .log) in let c = ft .log-room in omega arith);
+      all-answers = length-infront (flat (stepped h f k l .answers)) answers (let a = counts .1 in let b = length-flat (stepped h f k l .answers) in let c = ft .answers-room in omega arith);
       only-steps = untouched;
     }
 

@@ -3,10 +3,10 @@
 -- Assumes nothing.
 use Prim.Native.Nat.{ℕ, _+_, _≤_, _<_}
 use mathlib.Core.Path.{_≡_, refl, _∙_, ap}
-use mathlib.Core.List.{List, _++_}
+use mathlib.Core.List.{List, [], _∷_, _++_}
 use native.Mathlib.Omega.{arith}
-use lib.ListN.{length, getD, set, length-set, length-map, List·getD-append}
-use lib.Seq.{set-append-left}
+use lib.ListN.{length, getD, set, length-set, length-map, List·getD-append, take}
+use lib.Seq.{set-append-left, take-length, take-append-seam}
 use Rattle.runfile.specs.declared.Row.{Row}
 use Rattle.runfile.specs.Actions.{Action, step as steps, crash as crashes, wake as wakes, crashAll as crashesAll, none as idles, action, named}
 use Rattle.runfile.specs.Operations.{rowNumbered, first, count}
@@ -71,19 +71,20 @@ pub record Grows (s u : State) : Type 0 where
   pub log-one : length (u .log) ≤ length (s .log) + 1
   pub answers-more : length (s .answers) ≤ length (u .answers)
   pub answers-one : length (u .answers) ≤ length (s .answers) + 1
+  pub answers-kept : take (length (s .answers)) (u .answers) ≡ s .answers
 
 grows-apply : (e : Effect) (ps : List Process) (s : State) → length ps ≡ length (s .processes) → Grows s (apply e ps s)
 unfolding apply
-grows-apply quiet ps s h = record { words = refl; processes = h; log-more = omega arith; log-one = omega arith; answers-more = omega arith; answers-one = omega arith }
+grows-apply quiet ps s h = record { words = refl; processes = h; log-more = omega arith; log-one = omega arith; answers-more = omega arith; answers-one = omega arith; answers-kept = take-length (s .answers) }
 grows-apply (swaps w x e) ps s h =
     let l = length-insert e (s .log) in
-    record { words = length-set (s .words) w x; processes = h; log-more = omega arith; log-one = omega arith; answers-more = omega arith; answers-one = omega arith }
+    record { words = length-set (s .words) w x; processes = h; log-more = omega arith; log-one = omega arith; answers-more = omega arith; answers-one = omega arith; answers-kept = take-length (s .answers) }
 grows-apply (logs e) ps s h =
     let l = length-insert e (s .log) in
-    record { words = refl; processes = h; log-more = omega arith; log-one = omega arith; answers-more = omega arith; answers-one = omega arith }
+    record { words = refl; processes = h; log-more = omega arith; log-one = omega arith; answers-more = omega arith; answers-one = omega arith; answers-kept = take-length (s .answers) }
 grows-apply (replies e) ps s h =
     let l = length-snoc e (s .answers) in
-    record { words = refl; processes = h; log-more = omega arith; log-one = omega arith; answers-more = omega arith; answers-one = omega arith }
+    record { words = refl; processes = h; log-more = omega arith; log-one = omega arith; answers-more = omega arith; answers-one = omega arith; answers-kept = take-append-seam (s .answers) (e ∷ []) }
 
 grows-act : (rows : List Row) (t : ℕ) (a : Action) (p : ℕ) (s : State) → Grows s (act rows t a p s)
 unfolding act applied
@@ -91,7 +92,7 @@ grows-act rows t steps p s = grows-apply _ _ s (length-set (s .processes) p _)
 grows-act rows t crashes p s = grows-apply _ _ s (length-set (s .processes) p _)
 grows-act rows t wakes p s = grows-apply _ _ s (length-set (s .processes) p _)
 grows-act rows t crashesAll p s = grows-apply _ _ s (length-map (s .processes) crashed)
-grows-act rows t idles p s = record { words = refl; processes = refl; log-more = omega arith; log-one = omega arith; answers-more = omega arith; answers-one = omega arith }
+grows-act rows t idles p s = record { words = refl; processes = refl; log-more = omega arith; log-one = omega arith; answers-more = omega arith; answers-one = omega arith; answers-kept = take-length (s .answers) }
 
 pub grows : (rows : List Row) (t byte : ℕ) (s : State) → Grows s (step rows t byte s)
 unfolding step
