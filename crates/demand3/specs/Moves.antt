@@ -12,7 +12,7 @@ use Rattle.runfile.specs.declared.Row.{Row}
 use Rattle.runfile.specs.Operations.{rowNumbered, first, count}
 use Rattle.runfile.specs.Actions.{Action, step as steps, crash as crashes, wake as wakes, crashAll as crashesAll, none as idles, action, named}
 use Rattle.machine.specs.declared.Opened.the-variants.{Row as Open}
-use Rattle.machine.specs.declared.Turn.the-variants.{Still, Quiet}
+use Rattle.machine.specs.Turn.{Still, Quiet}
 use Rattle.machine.specs.Records.{fresh, with-stored}
 use Rattle.machine.specs.declared.Maybe.the-variants.{Nothing as None}
 use Rattle.machine.specs.declared.Status.the-variants.{N2}

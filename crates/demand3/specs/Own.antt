@@ -8,7 +8,7 @@ use lib.Dec.{eqb, ltb}
 use lib.ListN.{length, getD, set}
 use Rattle.rows.specs.declared.Entry.{Entry}
 use Rattle.machine.specs.Machine.{quiet, swaps, logs, replies, Move, State, alone, apply, moveOf}
-use Rattle.machine.specs.declared.Turn.the-variants.{Quiet, Swaps}
+use Rattle.machine.specs.Turn.{Quiet, Swaps}
 use Rattle.runfile.specs.declared.Row.{Row}
 use Rattle.machine.specs.declared.Process.{Process}
 use Rattle.machine.specs.declared.Stage.{Stage}

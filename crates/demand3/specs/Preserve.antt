@@ -22,7 +22,7 @@ use native.Mathlib.Nat.{add-zero, suc-add, add-suc}
 use lib.Seq.{getD-set-same, getD-set-other, set-out}
 use borrow.Author.Tests.{eqb-true, eqb-false, ltb-true, ltb-false}
 use Rattle.runfile.specs.Actions.{Action, step as steps, crash as crashes, wake as wakes, crashAll as crashesAll, none as idles, actionOf}
-use Rattle.machine.specs.declared.Turn.the-variants.{Still, Quiet}
+use Rattle.machine.specs.Turn.{Still, Quiet}
 use Rattle.machine.specs.Steps.{atWork, stepTurn}
 use Rattle.machine.specs.Records.{rowOpen, fresh, with-status, with-stored, with-checkpoint, crashed, waked, wokenUp}
 use Rattle.machine.specs.Laws.{fresh-at}

@@ -22,8 +22,7 @@ use Rattle.machine.specs.declared.Process.{Process}
 use Rattle.machine.specs.declared.Stage.the-variants.{A1, V4, V6}
 use Rattle.machine.specs.declared.Status.{Status}
 use Rattle.machine.specs.declared.Status.the-variants.{Down, Idle, N2, N3, Busy}
-use Rattle.machine.specs.declared.Turn.{Turn}
-use Rattle.machine.specs.declared.Turn.the-variants.{Still, Quiet, Swaps, Logs, Loses, Replies}
+use Rattle.machine.specs.Turn.{Turn, Still, Quiet, Swaps, Logs, Loses, Replies}
 use Rattle.machine.specs.Stages.{stageNumber}
 use Rattle.machine.specs.Records.{with-status, with-checkpoint, started, rowOpen}
 use Rattle.machine.specs.Steps.{spoken, tried, storing, decide, stepTurn}

@@ -1,1 +1,3 @@
 pub mod Down
+pub mod Entering
+pub mod Loop

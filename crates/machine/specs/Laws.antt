@@ -28,7 +28,7 @@ use Rattle.machine.specs.declared.Opened.the-variants.{Nothing as Closed
 use Rattle.machine.specs.declared.Status.{Status}
 use Rattle.machine.specs.declared.Status.the-variants.{Down, Idle, N2, N3, Busy}
 use Rattle.machine.specs.Records.{fresh, with-status, with-stored, with-checkpoint, Announcing, started, crashed, waked, wokenUp, rowOpen, WorkOpen}
-use Rattle.machine.specs.declared.Turn.the-variants.{Still, Quiet, Swaps, Logs, Loses}
+use Rattle.machine.specs.Turn.{Still, Quiet, Swaps, Logs, Loses}
 use Rattle.word.specs.Word.{value, valueIn, swapped}
 use Rattle.machine.specs.Steps.{afterRead, tried, storing, decide, atWork, stepTurn}
 use Rattle.machine.specs.Machine.{State, processOf, turn, apply, applied, procAt, act, step, after, begin}
@@ -231,12 +231,15 @@ module _ (rows : List Row) where
   sane-waked p r N3 h = h
   sane-waked p r (Busy stage seen readAt triedAt answer) h = h
 
-  sane-fresh : (P q : ℕ) → Sane rows q (getD (replicate P fresh) q fresh)
-  sane-fresh P q = rw (fresh-at P q) (record { in-file = λ k e. closed-open e; works = tt; left = λ x. absurd x })
+  pub sane-idle : (q : ℕ) → Sane rows q fresh
+  sane-idle q = record { in-file = λ k e. closed-open e; works = tt; left = λ x. absurd x }
 
-  -- "no index goes wrong": whatever the schedule, an open row is a row of the file, in the midst of work a row is open, and a row that is
-  -- announced is there
+  -- "no index goes wrong": whatever the bytes, if it is so before them, an open row is a row of the file, in the midst of work a row is
+  -- open, and a row that is announced is there
+  pub sane-after : (t : ℕ) (bytes : List ℕ) (s : State) → ((q : ℕ) → Sane rows q (procAt q s)) → (q : ℕ) → Sane rows q (procAt q (after rows t bytes s))
+  sane-after = each-after rows (Sane rows) sane-turned (λ p r h. record { in-file = h .in-file; works = tt; left = λ x. absurd x }) (λ p r h. sane-waked p r (r .status) h)
+
+  -- and so after every schedule from the start
   pub sane : (P : ℕ) (words bytes : List ℕ) (q : ℕ) → Sane rows q (procAt q (after rows 0 bytes (begin P words)))
   unfolding begin procAt
-  sane P words bytes q =
-      each-after rows (Sane rows) sane-turned (λ p r h. record { in-file = h .in-file; works = tt; left = λ x. absurd x }) (λ p r h. sane-waked p r (r .status) h) 0 bytes (begin P words) (sane-fresh P) q
+  sane P words bytes q = sane-after 0 bytes (begin P words) (λ q. rw (fresh-at P q) (sane-idle q)) q

@@ -1,9 +1,11 @@
 pub mod Stages
 pub mod Records
+pub mod Turn
 pub mod Steps
 pub mod Machine
 pub mod Reach
 pub mod Laws
+pub mod Part
 pub mod OneByte
 pub mod Limits
 pub mod Only

@@ -25,7 +25,7 @@ use Rattle.machine.specs.declared.Maybe.the-variants.{Nothing as None, I
 use Rattle.machine.specs.declared.Opened.the-variants.{Nothing as Closed, Row as Open}
 use Rattle.machine.specs.declared.Status.{Status}
 use Rattle.machine.specs.declared.Status.the-variants.{Down, Idle, N2, N3, Busy}
-use Rattle.machine.specs.declared.Turn.the-variants.{Quiet, Swaps, Logs, Loses}
+use Rattle.machine.specs.Turn.{Quiet, Swaps, Logs, Loses}
 use Rattle.word.specs.Word.{value, bit, swapped, valueIn, bitIn, swappedIn, bitOf, turnOf, flipsIn}
 use Rattle.machine.specs.Records.{fresh, with-status, closed, wokenUp}
 use Rattle.machine.specs.Steps.{recovered, sameBit, tried, storing, decide, stepTurn, working}

@@ -12,8 +12,7 @@ use Rattle.machine.specs.declared.Process.{Process}
 use Rattle.machine.specs.declared.Answer.the-variants.{False, True}
 use Rattle.machine.specs.declared.Maybe.the-variants.{Is}
 use Rattle.machine.specs.declared.Status.{Status}
-use Rattle.machine.specs.declared.Turn.{Turn}
-use Rattle.machine.specs.declared.Turn.the-variants.{Still, Quiet, Swaps, Logs, Loses, Replies}
+use Rattle.machine.specs.Turn.{Turn, Still, Quiet, Swaps, Logs, Loses, Replies}
 use Rattle.machine.specs.Records.{fresh, crashed, waked, rowOpen}
 use Rattle.machine.specs.Steps.{entry, stepTurn}
 

@@ -2,6 +2,6 @@
 -- Assumes nothing.
 use mathlib.Core.Path.{_≡_, sym, _∙_}
 
--- for `fresh`, `crash`, `wake`, `crash_all`, `open_row`, `entry_of` and `step_of`: x is what the definition gives, r and q are two answers
+-- for `fresh`, `open_row` and `number_of`: x is what the definition gives, r and q are two answers
 pub only : {A : Type 0} (x r q : A) → r ≡ x → q ≡ x → r ≡ q
 only x r q a b = a ∙ sym b

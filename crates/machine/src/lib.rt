@@ -1,22 +1,16 @@
-// The machine: a process's record, and what one step of it comes to.
+// The machine: a process's record, and a schedule, or a part of one, run over records and lent buffers.
 //
-// A step is decided by functions of values (the record, the row, the word as it stands, the position) and
-// carried out by whoever lends the buffers. Its meaning stands in specs/Steps, the whole machine's in specs/Machine.
+// What a byte means stands in specs/Steps and specs/Machine; `run_bytes` carries it out.
+mod engine;
 mod operation;
 mod records;
 mod recovery;
 mod said;
-mod step;
 
-pub use records::crash;
-pub use records::crash_all;
-pub use records::crash_first;
+pub use engine::run_bytes;
 pub use records::fresh;
-pub use records::wake;
-pub use said::entry_of;
-pub use step::number_of;
-pub use step::open_row;
-pub use step::step_of;
+pub use records::number_of;
+pub use records::open_row;
 
 // The stages of an operation and of recovery.
 pub enum Stage {
@@ -78,20 +72,21 @@ pub struct Process {
     pub begun: u16,
 }
 
-// What a step comes to: the record after it, and what is done besides. Each case carries the record, so
-// that the caller stores it in each way by itself, which is faster than one store where the ways meet.
-pub enum Turn {
-    // Nothing at all: the process is down, or idle with no rows left.
-    Still,
-    // The record alone.
-    Quiet(Process),
-    // The word becomes this, and "true" enters the log now.
-    Swaps(Process, u32),
-    // An answer enters the log at this position.
-    Logs(Process, u16, Answer),
-    // "False" enters the log at the first swap on the word after the first position; where the log has
-    // none, at the second.
-    Loses(Process, u16, u16),
-    // An answer row is added, and the row is closed.
-    Replies(Process, Maybe),
+// Where a run stands: the records, of which the first P are processes, the position of the next byte, and how many
+// rows stand in the log and in the answers.
+pub struct Standing {
+    pub processes: [Process; 16],
+    pub position: usize,
+    pub log: usize,
+    pub answers: usize,
+}
+
+// What a process is at work on: its open row, the word it read, the positions of its A1 and A4, and the answer that
+// it is to store.
+pub struct Work {
+    pub row: u16,
+    pub seen: u32,
+    pub read_at: u16,
+    pub tried_at: u16,
+    pub answer: Maybe,
 }

@@ -1,15 +1,38 @@
-// The stages of an operation, A1 to A6: each decided by values alone.
+// What the stages of an operation, A1 to A5, do with the word and the log.
 use super::Answer;
 use super::Maybe;
-use super::Process;
 use super::Stage;
 use super::Status;
-use super::Turn;
-use super::records::with_status;
+use super::Work;
+use super::said::entry_of;
 use runfile::Row;
 ghost use mathlib.Core.Path.{_≡_};
-ghost use Prim.Native.Nat.{_<_};
-ghost use Rattle.machine.specs.Steps.{afterRead, tried, storing};
+ghost use Prim.Native.Nat.{_+_, _*_, _≤_};
+ghost use lib.ListN.{length, getD, set};
+ghost use Rattle.runfile.specs.Layout.{rowAt};
+ghost use Rattle.runfile.specs.Operations.{rowsFrom};
+ghost use Rattle.rows.specs.Buffers.{rowsOf};
+ghost use Rattle.machine.specs.Reach.{Reach, Looked};
+ghost use Rattle.machine.specs.Part.{falseAt, Entered};
+ghost use Rattle.machine.specs.Steps.{afterRead};
+
+// The word that row k is on, as it stands now.
+pub fn word_now(table: &[u8], k: usize, words: &[u32]) -> u32
+    requires { ⌜ Reach (now table) k (now words) ⌝ }
+    ensures { λ r. ⌜ r ≡ getD (now (words .entry)) (rowAt (now (table .entry)) (k * 8) .word) 0 ⌝ }
+{
+    let w = runfile::index8(table[k * 8 + 2]);
+    words[w]
+}
+
+// Puts a number into the word that row k is on.
+pub fn put_word(table: &[u8], k: usize, words: &mut [u32], new: u32)
+    requires { ⌜ Reach (now table) k (now words) ⌝ }
+    ensures { λ _. ⌜ now (words .exit) ≡ set (now (words .entry)) (rowAt (now (table .entry)) (k * 8) .word) new ⌝ }
+{
+    let w = runfile::index8(table[k * 8 + 2]);
+    words[w] = new;
+}
 
 // A1, once the word is read at this position: a read is done, and so is a compare that meets another value.
 pub fn after_read(row: Row, word: u32, position: u16) -> Status
@@ -42,64 +65,43 @@ pub fn after_read(row: Row, word: u32, position: u16) -> Status
     }
 }
 
-// A4: the swap succeeds if the whole word, bits included, is still as read.
-pub fn tried_of(
-    me: u8,
-    position: u16,
-    row: Row,
-    now: u32,
-    process: Process,
-    seen: u32,
-    read_at: u16,
-) -> Turn
-    requires { ⌜ me < 16 ⌝ }
-    ensures { λ r. ⌜ r ≡ tried me position row now process seen «read_at» ⌝ }
+// The position with which a "false" enters the log: a lost swap, whose value was old, takes that of the first swap on
+// its word after its A1; any other that of its A1.
+fn false_at(table: &[u8], n: usize, log: &[u32], log_rows: usize, work: Work) -> u32
+    requires { ⌜ Looked (now table) n (work .row) (now log) «log_rows» ⌝ }
+    ensures { λ r. ⌜ r ≡ falseAt (rowsFrom (now (table .entry)) 0 n) (rowAt (now (table .entry)) (work .row * 8)) (rowsOf «log_rows» (now (log .entry))) work ⌝ }
 {
-    if now == seen {
-        let won = Status::Busy {
-            stage: Stage::A5,
-            word: seen,
-            read_at,
-            tried_at: position,
-            answer: Maybe::Is(Answer::True),
-        };
-        return Turn::Swaps(
-            with_status(process, won),
-            word::swapped_of(me as u32, row.new, seen),
-        );
+    let k = runfile::index16(work.row);
+    let row = runfile::row_at(table, k);
+    let read_at = work.read_at as u32;
+    let tried_at = work.tried_at as u32;
+    if word::value_of(work.seen) == row.old as u32 {
+        return rows::first_swap_after(table, n, log, log_rows, read_at, row.word, tried_at);
     }
-    let lost = Status::Busy {
-        stage: Stage::A5,
-        word: seen,
-        read_at,
-        tried_at: position,
-        answer: Maybe::Is(Answer::False),
-    };
-    Turn::Quiet(with_status(process, lost))
+    read_at
 }
 
-// A5: what the log gets of the answer that is stored. A swap that succeeded is there since A4.
-pub fn storing_of(
-    row: Row,
-    next: Process,
-    seen: u32,
-    read_at: u16,
-    tried_at: u16,
-    answer: Maybe,
-) -> Turn
-    ensures { λ r. ⌜ r ≡ storing row next seen «read_at» «tried_at» answer ⌝ }
+// A5: puts into the log what it gets of the answer that is stored. Answers how many rows the log has then.
+pub fn enter(table: &[u8], n: usize, log: &mut [u32], log_rows: usize, me: u8, work: Work) -> usize
+    requires { ⌜ Looked (now table) n (work .row) (now log) «log_rows» × («log_rows» * 5 + 5 ≤ length (now log)) ⌝ }
+    ensures { λ r. ⌜ Entered (rowsFrom (now (table .entry)) 0 n) (rowAt (now (table .entry)) (work .row * 8)) (now (log .entry)) «log_rows» me work r (now (log .exit)) ⌝ }
 {
+    let answer = work.answer;
     let Maybe::Is(said) = answer else {
-        return Turn::Quiet(next);
+        return log_rows;
     };
     match said {
-        Answer::True => Turn::Quiet(next),
-        Answer::Value(value) => Turn::Logs(next, read_at, Answer::Value(value)),
+        Answer::True => log_rows,
+        Answer::Value(_) => {
+            let read = entry_of(work.read_at as u32, me, work.row, answer);
+            rows::insert_row(log, log_rows, read);
+            log_rows + 1
+        }
         Answer::False => {
-            if word::value_of(seen) == row.old as u32 {
-                return Turn::Loses(next, read_at, tried_at);
-            }
-            Turn::Logs(next, read_at, Answer::False)
+            let at = false_at(table, n, log, log_rows, work);
+            let lost = entry_of(at, me, work.row, answer);
+            rows::insert_row(log, log_rows, lost);
+            log_rows + 1
         }
     }
 }

@@ -1,4 +1,4 @@
-// The process record with something changed.
+// The process record: how it is read, and how it is made.
 use super::Maybe;
 use super::Opened;
 use super::Process;
@@ -6,7 +6,7 @@ use super::Stage;
 use super::Status;
 ghost use mathlib.Core.Path.{_≡_};
 ghost use Prim.Native.Nat.{_+_, _≤_, _<_};
-ghost use mathlib.Core.List.{map};
+ghost use Rattle.machine.specs.Stages.{stageNumber};
 ghost use Rattle.machine.specs.Records as records;
 
 // "At first all are idle with nothing stored and both bits 0."
@@ -23,77 +23,46 @@ pub fn fresh() -> Process
     }
 }
 
-pub fn with_status(process: Process, status: Status) -> Process
-    ensures { λ r. ⌜ r ≡ records.with-status status process ⌝ }
+// The place of a stage in the list A1 to A6, V1 to V6.
+pub fn number_of(stage: Stage) -> u8
+    ensures { λ r. ⌜ r ≡ stageNumber stage ⌝ }
 {
-    let opened = process.opened;
-    let stored = process.stored;
-    Process {
-        status,
-        opened,
-        stored,
-        checkpoint: process.checkpoint,
-        kept: process.kept,
-        begun: process.begun,
+    match stage {
+        Stage::A1 => 0,
+        Stage::A2 => 1,
+        Stage::A3 => 2,
+        Stage::A4 => 3,
+        Stage::A5 => 4,
+        Stage::A6 => 5,
+        Stage::V1 => 6,
+        Stage::V2 => 7,
+        Stage::V3 => 8,
+        Stage::V4 => 9,
+        Stage::V5 => 10,
+        Stage::V6 => 11,
     }
 }
 
-pub fn with_kept(process: Process, status: Status, kept: bool) -> Process
-    ensures { λ r. ⌜ r ≡ records.with-kept status kept process ⌝ }
+// The number of the open row; 0 where none is open.
+pub fn open_row(opened: Opened) -> u16
+    ensures { λ r. ⌜ r ≡ records.rowOpen opened ⌝ }
 {
-    let opened = process.opened;
-    let stored = process.stored;
-    Process {
-        status,
-        opened,
-        stored,
-        checkpoint: process.checkpoint,
-        kept,
-        begun: process.begun,
+    match opened {
+        Opened::Nothing => 0,
+        Opened::Row(k) => k,
     }
 }
 
-pub fn with_checkpoint(process: Process, status: Status, checkpoint: bool) -> Process
-    ensures { λ r. ⌜ r ≡ records.with-checkpoint status checkpoint process ⌝ }
+// In the midst of work.
+pub fn busy(stage: Stage, word: u32, read_at: u16, tried_at: u16, answer: Maybe) -> Status
+    ensures { λ r. ⌜ r ≡ Status.Busy stage word «read_at» «tried_at» answer ⌝ }
 {
-    let opened = process.opened;
-    let stored = process.stored;
-    Process {
-        status,
-        opened,
-        stored,
-        checkpoint,
-        kept: process.kept,
-        begun: process.begun,
-    }
-}
-
-pub fn with_stored(process: Process, status: Status, stored: Maybe) -> Process
-    ensures { λ r. ⌜ r ≡ records.with-stored status stored process ⌝ }
-{
-    let opened = process.opened;
-    Process {
-        status,
-        opened,
-        stored,
-        checkpoint: process.checkpoint,
-        kept: process.kept,
-        begun: process.begun,
-    }
-}
-
-// "The row is closed, the process idle."
-pub fn closed(process: Process) -> Process
-    ensures { λ r. ⌜ r ≡ records.closed process ⌝ }
-{
-    let stored = process.stored;
-    Process {
-        status: Status::Idle,
-        opened: Opened::Nothing,
-        stored,
-        checkpoint: process.checkpoint,
-        kept: process.kept,
-        begun: process.begun,
+    Status::Busy {
+        stage,
+        word,
+        read_at,
+        tried_at,
+        answer,
     }
 }
 
@@ -102,65 +71,11 @@ pub fn start(process: Process, first: u16) -> Process
     requires { ⌜ first + process .begun < 65535 ⌝ }
     ensures { λ r. ⌜ r ≡ records.started (first + process .begun) process ⌝ }
 {
-    let stored = process.stored;
     Process {
-        status: Status::Busy {
-            stage: Stage::A1,
-            word: 0,
-            read_at: 0,
-            tried_at: 0,
-            answer: Maybe::Nothing,
-        },
+        status: busy(Stage::A1, 0, 0, 0, Maybe::Nothing),
         opened: Opened::Row(first + process.begun),
-        stored,
-        checkpoint: process.checkpoint,
-        kept: process.kept,
         begun: process.begun + 1,
-    }
-}
-
-// "An awake process goes down"; one that is down stays so.
-pub fn crash(process: Process) -> Process
-    ensures { λ r. ⌜ r ≡ records.crashed process ⌝ }
-{
-    with_status(process, Status::Down)
-}
-
-fn woken_up(opened: Opened) -> Status
-    ensures { λ r. ⌜ r ≡ records.wokenUp opened ⌝ }
-{
-    match opened {
-        Opened::Nothing => Status::Idle,
-        Opened::Row(_) => Status::Busy {
-            stage: Stage::V1,
-            word: 0,
-            read_at: 0,
-            tried_at: 0,
-            answer: Maybe::Nothing,
-        },
-    }
-}
-
-// "A process that is down goes to V1 if a row is open, else idle"; one that is awake stays as it is.
-pub fn wake(process: Process) -> Process
-    ensures { λ r. ⌜ r ≡ records.waked process (process .status) ⌝ }
-{
-    let status = process.status;
-    match status {
-        Status::Down => {
-            let opened = process.opened;
-            with_status(process, woken_up(opened))
-        }
-        Status::Idle => process,
-        Status::N2 => process,
-        Status::N3 => process,
-        Status::Busy {
-            stage: _,
-            word: _,
-            read_at: _,
-            tried_at: _,
-            answer: _,
-        } => process,
+        ..process
     }
 }
 
@@ -173,15 +88,11 @@ pub fn crash_first(processes: [Process; 16], count: usize) -> [Process; 16]
     let mut i = 0;
     while i < count {
         let process = down[i];
-        down[i] = crash(process);
+        down[i] = Process {
+            status: Status::Down,
+            ..process
+        };
         i += 1;
     }
     down
-}
-
-// "Crash of all: every awake process goes down."
-pub fn crash_all(processes: [Process; 16]) -> [Process; 16]
-    ensures { λ r. ⌜ r ≡ map records.crashed processes ⌝ }
-{
-    crash_first(processes, 16)
 }

@@ -6,6 +6,7 @@ ghost use mathlib.Core.Path.{_≡_};
 ghost use Prim.Native.Nat.{_<_};
 ghost use Rattle.word.specs.Word.{bit};
 ghost use Rattle.machine.specs.declared.Stage.the-variants as stage;
+ghost use Rattle.machine.specs.Part.{replyAt};
 ghost use Rattle.machine.specs.Steps.{recovered, sameBit};
 
 // V1: "an answer stored goes to V5, else V2".
@@ -34,5 +35,16 @@ pub fn by_bit(me: u8, now: u32, kept: bool) -> Stage
         if kept { Stage::V4 } else { Stage::V6 }
     } else {
         if kept { Stage::V6 } else { Stage::V4 }
+    }
+}
+
+// What is returned: the answer at A6 (number 5), the stored one at V5 (number 10), and fail at V6.
+pub fn reply_of(number: u8, answer: Maybe, stored: Maybe) -> Maybe
+    ensures { λ r. ⌜ r ≡ replyAt number answer stored ⌝ }
+{
+    match number {
+        5 => answer,
+        10 => stored,
+        _ => Maybe::Nothing,
     }
 }

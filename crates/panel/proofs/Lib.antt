@@ -4,7 +4,4 @@ pub mod Table
 pub mod Joined
 pub mod Ors
 pub mod Search
-pub mod Effects
-pub mod Put
-pub mod Carried
 pub mod Whole

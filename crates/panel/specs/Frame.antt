@@ -8,8 +8,8 @@ use mathlib.Core.List.{List, _++_}
 use mathlib.Core.Logic.{_≢_}
 use native.Mathlib.Omega.{arith}
 use lib.Dec.{ltb}
-use lib.ListN.{length, getD, set, take, drop, take-append-drop, length-append, length-drop, List·getD-append}
-use lib.Seq.{take-set-lt, drop-set-lt, drop-at, getD-take, getD-drop, getD-set-other, length-take-le}
+use lib.ListN.{length, getD, take, drop, take-append-drop, length-append, length-drop, List·getD-append}
+use lib.Seq.{drop-at, getD-take, getD-drop, getD-set-other, length-take-le}
 use borrow.Author.Tests.{ltb-true, ltb-false, leb-false}
 use Rattle.runfile.specs.declared.Header.{Header}
 use Rattle.runfile.specs.declared.Row.{Row}
@@ -22,8 +22,7 @@ use Rattle.rows.specs.Buffers.{rowsOf, flat, infront}
 use Rattle.rows.specs.BufferLaws.{beyond, flat-append, flat-rowsOf, length-flat, length-infront, length-rowsOf, rows-same}
 use Rattle.machine.specs.declared.Process.{Process}
 use Rattle.machine.specs.declared.Status.{Status}
-use Rattle.machine.specs.declared.Turn.{Turn}
-use Rattle.machine.specs.declared.Turn.the-variants.{Still, Quiet, Swaps, Logs, Loses, Replies}
+use Rattle.machine.specs.Turn.{Turn, Still, Quiet, Swaps, Logs, Loses, Replies}
 use Rattle.machine.specs.Records.{fresh, nobody, rowOpen}
 use Rattle.machine.specs.Laws.{getD-either}
 use Rattle.machine.specs.Machine.{State, effectOf, wordsAfter, turn, apply, applied, procAt, act, step}
@@ -37,10 +36,6 @@ use Rattle.panel.specs.Longer.{grows}
 use Rattle.panel.specs.Fits.{fit, fine-file}
 use Rattle.panel.specs.Press.{Pressing, Lent, pressing, lent, ample, verdictOf, stateOf, stepped, Pressed, carried, pressedAs, pressed, Fit}
 use Rattle.panel.specs.Key.{keyed}
-
--- one of the first P is changed
-pub set-front : (ps : List Process) (P p : ℕ) (x : Process) → p < P → set (take P ps) p x ++ drop P ps ≡ set ps p x
-set-front ps P p x h = rw (← (take-set-lt P ps p x h), ← (drop-set-lt P ps p x h)) (take-append-drop P (set ps p x))
 
 -- a word that the row is not on
 word-stays : (rows : List Row) (log : List Entry) (p t k w : ℕ) (u : Turn) (words : List ℕ) (j : ℕ) → j ≢ w → getD (wordsAfter (effectOf rows log p t k w u) words) j 0 ≡ getD words j 0

@@ -23,7 +23,7 @@ use Rattle.machine.specs.declared.Opened.{Opened}
 use Rattle.machine.specs.declared.Opened.the-variants.{Nothing as Closed, Row as Open}
 use Rattle.machine.specs.declared.Status.{Status}
 use Rattle.machine.specs.declared.Status.the-variants.{Down, Idle, N2, N3, Busy}
-use Rattle.machine.specs.declared.Turn.the-variants.{Still, Quiet, Swaps, Logs, Loses}
+use Rattle.machine.specs.Turn.{Still, Quiet, Swaps, Logs, Loses}
 use Rattle.machine.specs.Records.{fresh, with-status, with-stored, closed, crashed, waked, wokenUp, started, rowOpen}
 use Rattle.machine.specs.Steps.{decide, tried, storing, atWork, stepTurn, recovered, sameBit, afterRead}
 use Rattle.machine.specs.Machine.{State, processOf, turn, procAt, step, begin}

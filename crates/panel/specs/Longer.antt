@@ -15,8 +15,7 @@ use Rattle.rows.specs.LogLaws.{length-insert}
 use Rattle.rows.specs.BufferLaws.{length-snoc}
 use Rattle.machine.specs.declared.Process.{Process}
 use Rattle.machine.specs.declared.Status.{Status}
-use Rattle.machine.specs.declared.Turn.{Turn}
-use Rattle.machine.specs.declared.Turn.the-variants.{Still, Quiet, Swaps, Logs, Loses, Replies}
+use Rattle.machine.specs.Turn.{Turn, Still, Quiet, Swaps, Logs, Loses, Replies}
 use Rattle.machine.specs.Records.{rowOpen, crashed}
 use Rattle.machine.specs.Steps.{stepTurn}
 use Rattle.machine.specs.Machine.{State, Effect, quiet, swaps, logs, replies, processOf, effectOf, moveOf, turn, wordsAfter, logAfter, answersAfter, apply, applied, procAt, act, step}

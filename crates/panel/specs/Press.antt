@@ -7,20 +7,18 @@ use mathlib.Core.Path.{_≡_}
 use mathlib.Core.Bool.{false, cond}
 use mathlib.Core.List.{List, _++_}
 use lib.Dec.{ltb}
-use lib.ListN.{length, take, drop, set, getD}
+use lib.ListN.{length, take, drop}
 use Rattle.runfile.specs.declared.Header.{Header}
 use Rattle.runfile.specs.declared.Room.{Room}
-use Rattle.runfile.specs.declared.Row.{Row}
 use Rattle.runfile.specs.declared.Checked.{Checked}
 use Rattle.runfile.specs.declared.Checked.the-variants as checked
-use Rattle.runfile.specs.Actions.{Action, step as steps, crash as crashes, wake as wakes, crashAll as crashesAll, none as idles, action, named}
+use Rattle.runfile.specs.Actions.{action}
 use Rattle.runfile.specs.Operations.{tableOf}
 use Rattle.runfile.specs.Lawful.{Lawful}
 use Rattle.runfile.specs.Refusals.{numberOf, badByte, refusalOf}
 use Rattle.rows.specs.Buffers.{rowsOf, flat, infront}
 use Rattle.machine.specs.declared.Process.{Process}
-use Rattle.machine.specs.Records.{nobody, crashed, waked, downTo}
-use Rattle.machine.specs.Machine.{State, turn, wordsAfter, logAfter, answersAfter, step}
+use Rattle.machine.specs.Machine.{State, step}
 use Rattle.panel.specs.declared.Why.{Why}
 use Rattle.panel.specs.declared.Why.the-variants.{File, Words, Log, Answers, Record, Key}
 use Rattle.panel.specs.declared.Verdict.{Verdict}
@@ -148,29 +146,3 @@ pub record Fit (h : Header) (f : List ℕ) (k : Pressing) (l : Lent) : Type 0 wh
   pub early : k .position ≤ 1023
   pub possible : anyImpossible (tableOf h f) (l .processes) 0 (h .processes) ≡ false
   pub action : badByte (h .processes) (k .byte) ≡ false
-
--- a crash or a wake, over the table: the first P go down by F0
-abbrev pub othersAs : ℕ → Action → ℕ → List Process → List Process
-othersAs P steps p t = t
-othersAs P crashes p t = set t p (crashed (getD t p nobody))
-othersAs P wakes p t = set t p (waked (getD t p nobody) (getD t p nobody .status))
-othersAs P crashesAll p t = downTo P t
-othersAs P idles p t = t
-
-abbrev pub others : ℕ → ℕ → List Process → List Process
-others P byte t = othersAs P (action byte) (named byte) t
-
--- a step of process p, put back
-abbrev pub steppedIn : List Row → (p t logRows answerRows : ℕ) → Lent → Pressed
-steppedIn rows p t logRows answerRows l =
-    let r = getD (l .processes) p nobody in
-    let m = turn rows p t (l .words) (rowsOf logRows (l .log)) r (r .status) in
-    let log′ = logAfter (m .effect) (rowsOf logRows (l .log)) in
-    let answers′ = answersAfter (m .effect) (rowsOf answerRows (l .answers)) in
-    record {
-      outcome = Went (length log′) (length answers′);
-      processes = set (l .processes) p (m .process);
-      words = wordsAfter (m .effect) (l .words);
-      log = infront (flat log′) (l .log);
-      answers = infront (flat answers′) (l .answers);
-    }

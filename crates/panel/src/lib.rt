@@ -2,7 +2,6 @@
 //
 // The work is done by `press`, on a table of sixteen records by value. `key` is thin: it takes the lent records into
 // such a table, presses the key, and gives the records back.
-mod act;
 mod judge;
 mod possible;
 mod press;
@@ -43,13 +42,6 @@ pub enum Outcome {
 pub enum Verdict {
     Fine(Header),
     Not(Why, usize),
-}
-
-// A record after its step, and the two row counts.
-pub struct Stepped {
-    pub process: Process,
-    pub log: usize,
-    pub answers: usize,
 }
 
 // The table after a key, and what the key came to.

@@ -6,7 +6,7 @@ use machine::Process;
 use machine::Stage;
 use machine::Status;
 ghost use mathlib.Core.Path.{_≡_};
-ghost use Prim.Native.Nat.{_+_, _<_, _≤_};
+ghost use Prim.Native.Nat.{_+_, _<_};
 ghost use Rattle.panel.specs.Possible as possible;
 
 // The stages of a read.

@@ -1,10 +1,13 @@
 -- The run of an accepted file, from its parts: the table and the schedule are parts of the file, the words a part of their buffer.
 -- Assumes nothing.
-use mathlib.Core.Path.{_≡_, refl, sym, ap, _∙_}
+use mathlib.Core.Path.{_≡_, refl, sym, ap, subst, _∙_}
+use mathlib.Core.Bool.{Bool, true, false}
+use lib.Dec.{ltb}
+use borrow.Author.Tests.{ltb-true, ltb-false}
 use mathlib.Core.List.{List, [], _∷_, _++_}
-use Prim.Native.Nat.{ℕ, suc, _-_}
+use Prim.Native.Nat.{ℕ, zero, suc, _-_, _≤_}
 use native.Mathlib.Omega.{arith}
-use lib.ListN.{length, take, drop, length-set}
+use lib.ListN.{length, getD, take, drop, replicate, length-set, List·getD-eq-default}
 use Rattle.runfile.specs.declared.Header.{Header}
 use Rattle.runfile.specs.declared.Row.{Row}
 use Rattle.runfile.specs.declared.Checked.the-variants.{Accepted}
@@ -13,13 +16,16 @@ use Rattle.runfile.specs.Actions.{Action, step as steps, crash as crashes, wake
 use Rattle.runfile.specs.Operations.{wordsFrom, wordsOf, rowsFrom, tableOf}
 use Rattle.runfile.specs.Lawful.{Lawful}
 use Rattle.rows.specs.Buffers.{infront}
+use Rattle.machine.specs.declared.Process.{Process}
+use Rattle.machine.specs.declared.Standing.{Standing}
+use Rattle.machine.specs.Records.{fresh, nobody}
+use Rattle.machine.specs.Laws.{Sane, sane-idle, fresh-at, closed-open, getD-either}
 use Rattle.machine.specs.Machine.{State, Effect, quiet, swaps, logs, replies, wordsAfter, turn, apply, applied, procAt, act, step, after, begin}
 use Rattle.run.specs.declared.Outcome.the-variants.{Ran}
-use Rattle.run.specs.Buffers.{Runnable, Holds}
+use Rattle.machine.specs.Part.{Holds, Runnable, Runs, stateLent}
 use Rattle.run.specs.Run.{endOf, roomOf, EndsAs}
-use Rattle.run.specs.Parts.{part-all, rows-part, lined-part, words-part}
+use Rattle.run.specs.Parts.{part-all, table-part, lined-part, words-part}
 use Rattle.runfile.specs.OperationLaws.{length-wordsFrom}
-use Rattle.run.proofs.Cut.{cut, after-begin}
 
 -- no byte changes how many words there are
 words-same : (e : Effect) (words : List ℕ) → length (wordsAfter e words) ≡ length words
@@ -41,9 +47,29 @@ unfolding after step
 words-length rows t [] s = refl
 words-length rows t (b ∷ bytes) s = words-length rows (suc t) bytes (step rows t b s) ∙ act-length rows t (action b) (named b) s
 
+-- sixteen fresh records, of which P are processes; no rows; and the first byte is at position 0: that is the state before the first byte
+replicate-take : (P n : ℕ) (p : Process) → P ≤ n → take P (replicate n p) ≡ replicate P p
+replicate-take zero n p h = refl
+replicate-take (suc P) zero p h = absurd (omega arith)
+replicate-take (suc P) (suc n) p h = ap (λ l. p ∷ l) (replicate-take P n p (omega arith))
+
+abbrev atFirst : Process → Standing
+atFirst p = record { processes = replicate 16 p; position = 0; log = 0; answers = 0 }
+
+lent-first : (P : ℕ) (words log answers : List ℕ) → P ≤ 16 → stateLent P (atFirst fresh) words log answers ≡ begin P words
+unfolding stateLent begin
+lent-first P words log answers h = ap (λ ps. record { words = words; processes = ps; log = []; answers = [] }) (replicate-take P 16 fresh h)
+
+sane-first : (rows : List Row) (p : ℕ) → Sane rows p (getD (replicate 16 fresh) p nobody)
+sane-first rows p = go (ltb p 16) refl
+  where
+    go : (c : Bool) → ltb p 16 ≡ c → Sane rows p (getD (replicate 16 fresh) p nobody)
+    go true e = subst (Sane rows p) (sym (getD-either (replicate 16 fresh) p nobody fresh (ltb-true p 16 e) ∙ fresh-at 16 p)) (sane-idle rows p)
+    go false e = subst (Sane rows p) (sym (List·getD-eq-default (replicate 16 fresh) nobody (ltb-false p 16 e))) (record { in-file = λ k e. closed-open e; works = tt; left = λ x. absurd x })
+
 module _ (h : Header) (f words log answers : List ℕ) (l : Lawful h f (roomOf words log answers)) where
   -- what the run asks
-  pub runnable : Runnable (drop (rowsStart h) f) (h .rows) (scheduleIn h f) (wordsFrom f (h .words)) log answers
+  pub runnable : Runnable (drop (rowsStart h) f) (h .rows) (scheduleIn h f) (wordsFrom f (h .words)) log answers (h .processes) (atFirst fresh)
   unfolding rowAt
   runnable =
       let exact = l .head .exact in
@@ -54,46 +80,37 @@ module _ (h : Header) (f words log answers : List ℕ) (l : Lawful h f (roomOf w
       record {
         lined = lined-part h f (roomOf words log answers) l;
         on-words = λ k i. rw (length-wordsFrom f (h .words)) (words-part h f (roomOf words log answers) l k i);
-        short = omega arith;
+        present = l .head .processes;
+        lawful = λ i b. l .actions i (let s = l .schedule in omega arith);
+        early = omega arith;
         log-room = omega arith;
         answers-room = omega arith;
+        sane = λ p i. sane-first (rowsFrom (drop (rowsStart h) f) 0 (h .rows)) p;
       }
 
   abbrev reached : State
-  reached = after (rowsFrom (drop (rowsStart h) f) 0 (h .rows)) 0 (scheduleIn h f) (begin 16 (wordsFrom f (h .words)))
+  reached = after (rowsFrom (drop (rowsStart h) f) 0 (h .rows)) 0 (scheduleIn h f) (stateLent (h .processes) (atFirst fresh) (wordsFrom f (h .words)) log answers)
 
-  the-end : endOf h f ≡ cut (h .processes) reached
-  unfolding endOf wordsOf tableOf
-  the-end =
-      after-begin (tableOf h f) (h .processes) (scheduleIn h f) (wordsOf h f) (l .head .processes) (λ i b. l .actions i (let s = l .schedule in omega arith))
-      ∙ ap (cut (h .processes)) (sym (rw (rows-part f (rowsStart h) 0 (h .rows)) (ap (λ i. after (rowsFrom f i (h .rows)) 0 (scheduleIn h f) (begin 16 (wordsFrom f (h .words)))) (omega arith))))
+  the-end : reached ≡ endOf h f
+  unfolding endOf wordsOf
+  the-end = rw (table-part h f) (ap (after (tableOf h f) 0 (scheduleIn h f)) (lent-first (h .processes) (wordsFrom f (h .words)) log answers (l .head .processes)))
 
   end-length : length (endOf h f .words) ≡ h .words
   unfolding endOf begin wordsOf
   end-length = words-length (tableOf h f) 0 (scheduleIn h f) (begin (h .processes) (wordsOf h f)) ∙ length-wordsFrom f (h .words)
 
-  pub end-holds : (m k : ℕ) (words′ log′ answers′ : List ℕ) → Holds reached log answers m k words′ log′ answers′ → Holds (endOf h f) log answers m k words′ log′ answers′
-  end-holds m k words′ log′ answers′ held =
-      let same-words : endOf h f .words ≡ reached .words = ap (λ s. s .words) the-end in
-      let same-log : endOf h f .log ≡ reached .log = ap (λ s. s .log) the-end in
-      let same-answers : endOf h f .answers ≡ reached .answers = ap (λ s. s .answers) the-end in
-      record {
-        words-are = rw same-words (held .words-are);
-        log-count = rw same-log (held .log-count);
-        log-is = rw same-log (held .log-is);
-        answers-count = rw same-answers (held .answers-count);
-        answers-are = rw same-answers (held .answers-are);
-      }
+  -- in the terms of the code: where the parts begin, how many rows and processes there are, the words as they were loaded, and a fresh record
+  module _ (rows-at n schedule-at P : ℕ) (loaded′ : List ℕ) (p : Process) (ra : rows-at ≡ rowsStart h) (na : n ≡ h .rows) (sa : schedule-at ≡ scheduleStart h) (pa : P ≡ h .processes)
+      (la : loaded′ ≡ wordsFrom f (length words)) (size : length words ≡ h .words) (idle : p ≡ fresh) where
+    pub asked : Runnable (take (length f - rows-at) (drop rows-at f)) n (take (length f - schedule-at) (drop schedule-at f)) loaded′ log answers P (atFirst p)
+    asked = rw (ra, na, sa, pa, la, size, idle, part-all f (rowsStart h), part-all f (scheduleStart h)) runnable
 
-  -- the same in the terms of the code: where the parts begin, how many rows there are, and the words as they were loaded
-  module _ (rows-at n schedule-at : ℕ) (loaded′ : List ℕ) (ra : rows-at ≡ rowsStart h) (na : n ≡ h .rows) (sa : schedule-at ≡ scheduleStart h) (la : loaded′ ≡ wordsFrom f (length words)) (size : length words ≡ h .words) where
-    pub asked : Runnable (take (length f - rows-at) (drop rows-at f)) n (take (length f - schedule-at) (drop schedule-at f)) loaded′ log answers
-    asked = rw (ra, na, sa, la, size, part-all f (rowsStart h), part-all f (scheduleStart h)) runnable
-
-    pub told : (m k : ℕ) (words′ log′ answers′ : List ℕ)
-        → Holds (after (rowsFrom (take (length f - rows-at) (drop rows-at f)) 0 n) 0 (take (length f - schedule-at) (drop schedule-at f)) (begin 16 loaded′)) log answers m k words′ log′ answers′
-        → Holds (endOf h f) log answers m k words′ log′ answers′
-    told m k words′ log′ answers′ held = end-holds m k words′ log′ answers′ (rw (ra, na, sa, la, size, part-all f (rowsStart h), part-all f (scheduleStart h)) at held)
+    pub told : (r : Standing) (words′ log′ answers′ : List ℕ)
+        → Runs (take (length f - rows-at) (drop rows-at f)) n (take (length f - schedule-at) (drop schedule-at f)) loaded′ log answers P (atFirst p) r words′ log′ answers′
+        → Holds (endOf h f) log answers (r .log) (r .answers) words′ log′ answers′
+    told r words′ log′ answers′ left =
+        subst (λ s. Holds s log answers (r .log) (r .answers) words′ log′ answers′) the-end
+        (rw (ra, na, sa, pa, la, size, idle, part-all f (rowsStart h), part-all f (scheduleStart h)) at (left .holds))
 
   -- what stands in the buffers at the end: the words' part, and behind it what stood there
   pub finish : (m k : ℕ) (part words′ log′ answers′ : List ℕ) → Holds (endOf h f) log answers m k part log′ answers′ → words′ ≡ part ++ drop (h .words) words

@@ -1,4 +1,2 @@
-pub mod Loop
 pub mod Start
-pub mod Cut
 pub mod Finish

@@ -1,20 +1,17 @@
 // The whole: a run file is refused, and nothing is touched, or it is run.
 mod load;
-mod schedule;
 
 pub use load::load_words;
+use machine::Standing;
 use runfile::Checked;
 use runfile::Header;
 use runfile::Refusal;
 use runfile::Room;
-pub use schedule::lost_at;
-pub use schedule::put_word;
-use schedule::run_schedule;
 ghost use Rattle.runfile.specs.Lawful.{Lawful};
 ghost use Rattle.runfile.specs.declared.Checked.the-variants as checked;
 ghost use mathlib.Core.Path.{_≡_};
 ghost use lib.ListN.{length};
-ghost use Rattle.run.specs.Buffers.{Holds};
+ghost use Rattle.machine.specs.Part.{Holds};
 ghost use Rattle.run.specs.Run.{endOf, roomOf, Ends, EndsAs};
 
 // Refused, with the refusal and its place; or run, with the two row counts.
@@ -30,7 +27,7 @@ pub struct Counts {
 }
 
 // Runs a file that is not refused over as many words as it has: the start words are loaded, and the schedule,
-// the part of the file that begins after the last row, runs over them.
+// the part of the file that begins after the last row, runs over them from position 0 on, with all idle.
 fn run_words(
     file: &[u8],
     header: Header,
@@ -45,14 +42,27 @@ fn run_words(
     let rows_at = runfile::rows_start(header);
     let schedule_at = runfile::schedule_start(header);
     load_words(file, words);
-    run_schedule(
+    let idle = machine::fresh();
+    let from = Standing {
+        processes: [idle; 16],
+        position: 0,
+        log: 0,
+        answers: 0,
+    };
+    let left = machine::run_bytes(
         &file[rows_at..],
         rows,
         &file[schedule_at..],
         words,
         log,
         answers,
-    )
+        runfile::index8(header.processes),
+        from,
+    );
+    Counts {
+        log: left.log,
+        answers: left.answers,
+    }
 }
 
 // Runs a file that is not refused: only the first W numbers of the words buffer are lent on.

@@ -1,10 +1,19 @@
--- `run_words` meets its contract: the parts of the file are its table and its schedule, and sixteen records run as P do.
+-- `run_words` meets its contract: the parts of the file are its table and its schedule, and what is lent to the machine is its first state.
 -- Assumes nothing.
 use Rattle.run.proofs.Finish.{asked, told}
 use denote.Ref.{now}
 use borrow.Author.Needs.{needs}
 use Rattle.run.proofs.run_words.Statement.{statement}
 use Rattle.run.proofs.run_words.Tie as tie
+use Rattle.run.proofs.run_words.Reads as reads
+use Rattle.run.proofs.run_words.Lts as lts
+use Rattle.machine.proofs.run_bytes.Reads as run-bytes-reads
+use Rattle.machine.proofs.fresh.Reads as fresh-reads
+use Rattle.run.proofs.load.load_words.Reads as load-words-reads
+use Rattle.runfile.proofs.index16.Reads as index16-reads
+use Rattle.runfile.proofs.index8.Reads as index8-reads
+use Rattle.runfile.proofs.rows_start.Reads as rows-start-reads
+use Rattle.runfile.proofs.schedule_start.Reads as schedule-start-reads
 
 index16-requires : tie.Need-index16-requires
 index16-requires c κs = search needs
@@ -18,32 +27,40 @@ schedule-start-requires c κs = search needs
 load-words-requires : tie.Need-load-words-requires
 load-words-requires c κs = search needs
 
-sub-run-schedule : tie.Need-sub-run-schedule
-sub-run-schedule c = search needs
+fresh-requires : tie.Need-fresh-requires
+fresh-requires c κs = search needs
 
-part-run-schedule-start : tie.Need-part-run-schedule-start
-part-run-schedule-start c = search needs
+sub-run-bytes : tie.Need-sub-run-bytes
+sub-run-bytes c = search needs
 
-part-run-schedule-end : tie.Need-part-run-schedule-end
-part-run-schedule-end c = search needs
+part-run-bytes-start : tie.Need-part-run-bytes-start
+part-run-bytes-start c = search needs
 
-sub-run-schedule-2 : tie.Need-sub-run-schedule-2
-sub-run-schedule-2 c = search needs
+part-run-bytes-end : tie.Need-part-run-bytes-end
+part-run-bytes-end c = search needs
 
-part-run-schedule-start-2 : tie.Need-part-run-schedule-start-2
-part-run-schedule-start-2 c = search needs
+sub-run-bytes-2 : tie.Need-sub-run-bytes-2
+sub-run-bytes-2 c = search needs
 
-part-run-schedule-end-2 : tie.Need-part-run-schedule-end-2
-part-run-schedule-end-2 c = search needs
+part-run-bytes-start-2 : tie.Need-part-run-bytes-start-2
+part-run-bytes-start-2 c = search needs
 
-run-schedule-requires : tie.Need-run-schedule-requires
-run-schedule-requires c κs = let lw = c .before .before .before .before .before .before .before in
+part-run-bytes-end-2 : tie.Need-part-run-bytes-end-2
+part-run-bytes-end-2 c = search needs
+
+index8-requires : tie.Need-index8-requires
+index8-requires c κs = search needs
+
+run-bytes-requires : tie.Need-run-bytes-requires
+run-bytes-requires c κs = let i8 = c in
+    let fr = i8 .before .before .before .before .before .before in
+    let lw = fr .before .before .before in
     let ss = lw .before .before in
     let rs = ss .before in
     let ix = rs .before in
     let s = ix .before .before .before .before .before in
     let a = s .args in
-    asked (a .header) (now (a .file)) (now (a .words)) (now (a .log)) (now (a .answers)) (s .pre .1) _ _ _ _ (rs .rows-start .ensures .0) (ix .index16 .ensures .0) (ss .schedule-start .ensures .0) (lw .load-words .ensures) (s .pre .0)
+    asked (a .header) (now (a .file)) (now (a .words)) (now (a .log)) (now (a .answers)) (s .pre .1) _ _ _ _ _ _ (rs .rows-start .ensures .0) (ix .index16 .ensures .0) (ss .schedule-start .ensures .0) (i8 .index8 .ensures .0) (lw .load-words .ensures) (s .pre .0) (fr .fresh .ensures)
 
 same-length : tie.Need-same-length
 same-length c = search needs
@@ -56,13 +73,15 @@ same-length-3 c = search needs
 
 returns : tie.Need-returns
 returns c = let rn = c .before .before .before .before .before .before in
-    let lw = rn .before .before .before .before .before .before .before .before in
+    let i8 = rn .before in
+    let fr = i8 .before .before .before .before .before .before in
+    let lw = fr .before .before .before in
     let ss = lw .before .before in
     let rs = ss .before in
     let ix = rs .before in
     let s = ix .before .before .before .before .before in
     let a = s .args in
-    told (a .header) (now (a .file)) (now (a .words)) (now (a .log)) (now (a .answers)) (s .pre .1) _ _ _ _ (rs .rows-start .ensures .0) (ix .index16 .ensures .0) (ss .schedule-start .ensures .0) (lw .load-words .ensures) (s .pre .0) _ _ _ _ _ (rn .run-schedule .ensures)
+    told (a .header) (now (a .file)) (now (a .words)) (now (a .log)) (now (a .answers)) (s .pre .1) _ _ _ _ _ _ (rs .rows-start .ensures .0) (ix .index16 .ensures .0) (ss .schedule-start .ensures .0) (i8 .index8 .ensures .0) (lw .load-words .ensures) (s .pre .0) (fr .fresh .ensures) _ _ _ _ (rn .run-bytes .ensures)
 
 pub run-words-spec : {M : Type 1} → statement M
 run-words-spec =
@@ -72,13 +91,15 @@ run-words-spec =
     rows-start-requires
     schedule-start-requires
     load-words-requires
-    sub-run-schedule
-    part-run-schedule-start
-    part-run-schedule-end
-    sub-run-schedule-2
-    part-run-schedule-start-2
-    part-run-schedule-end-2
-    run-schedule-requires
+    fresh-requires
+    sub-run-bytes
+    part-run-bytes-start
+    part-run-bytes-end
+    sub-run-bytes-2
+    part-run-bytes-start-2
+    part-run-bytes-end-2
+    index8-requires
+    run-bytes-requires
     same-length
     same-length-2
     same-length-3

@@ -25,9 +25,6 @@ mul-process c = search needs
 array-copy-out-process : tie.Need-array-copy-out-process Inv-loop μ-loop
 array-copy-out-process c = search needs
 
-crash-requires : tie.Need-crash-requires Inv-loop μ-loop
-crash-requires c κs = search needs
-
 mul-down : tie.Need-mul-down Inv-loop μ-loop
 mul-down c = search needs
 
@@ -42,9 +39,9 @@ loop-less c = search needs
 
 loop-again : tie.Need-loop-again Inv-loop μ-loop
 loop-again c =
-    let l = c .before .before .before in
+    let l = c .before .before in
     let v = l .loop .inv in
-    (search needs, v .1, v .2, simp length-set (v .3), down-turn (l .loop .i) (l .before .args .processes) (l .loop .down) (c .crash .result) (omega arith) (v .4) (c .crash .ensures))
+    (search needs, v .1, v .2, simp length-set (v .3), down-turn (l .loop .i) (l .before .args .processes) (l .loop .down) _ (omega arith) (v .4) refl)
 
 returns : tie.Need-returns Inv-loop μ-loop
 returns c =
@@ -62,7 +59,6 @@ crash-first-spec =
     loop-holds
     mul-process
     array-copy-out-process
-    crash-requires
     mul-down
     array-set-from-down
     add-i

@@ -10,7 +10,7 @@ use denote.Ref.{now}
 use Rattle.runfile.specs.Layout.{rowAt}
 use Rattle.runfile.specs.Operations.{rowsFrom, rowNumbered, reads}
 use Rattle.machine.specs.Records.{rowOpen}
-use Rattle.run.specs.Turns.{row-is}
+use Rattle.machine.specs.Reach.{row-is}
 use Rattle.machine.specs.declared.Process.{Process}
 use Rattle.machine.specs.declared.Opened.the-variants.{Nothing as Closed, Row as Open}
 use Rattle.panel.specs.Possible.{misplaced, misdone}

@@ -1,0 +1,59 @@
+-- `false_at` meets its contract: whether the value read was old.
+-- Assumes nothing.
+use Prim.Native.Nat.{ℕ, _*_}
+use mathlib.Core.Path.{ap, _∙_}
+use denote.Ref.{now}
+use Rattle.runfile.specs.Layout.{rowAt}
+use Rattle.runfile.specs.Operations.{rowsFrom}
+use Rattle.rows.specs.Buffers.{rowsOf}
+use Rattle.machine.proofs.Entering.{lost-at, other-at}
+use borrow.Author.Needs.{needs}
+use Rattle.machine.proofs.operation.false_at.Statement.{statement}
+use Rattle.machine.proofs.operation.false_at.Tie as tie
+
+index16-requires : tie.Need-index16-requires
+index16-requires c κs = search needs
+
+row-at-requires : tie.Need-row-at-requires
+row-at-requires c κs = search needs
+
+cast-read-at : tie.Need-cast-read-at
+cast-read-at c = search needs
+
+cast-tried-at : tie.Need-cast-tried-at
+cast-tried-at c = search needs
+
+value-of-requires : tie.Need-value-of-requires
+value-of-requires c κs = search needs
+
+cast-if1 : tie.Need-cast-if1
+cast-if1 c = search needs
+
+first-swap-after-requires : tie.Need-first-swap-after-requires
+first-swap-after-requires c κs = search needs
+
+returns : tie.Need-returns
+returns c = let v = c .before .before .before in
+    let ra = v .before .before .before in
+    let a = ra .before .before .before .before .args in
+    lost-at (rowsFrom (now (a .table)) 0 (a .n)) _ _ (rowsOf (a .log-rows) (now (a .log))) (a .work) _ (ra .row-at .ensures ∙ ap (λ (k : ℕ). rowAt (now (a .table)) (k * 8)) (ra .before .index16 .ensures .0)) (v .value-of .ensures) _ (c .before .if1 .taken) (c .first-swap-after .ensures)
+
+returns-2 : tie.Need-returns-2
+returns-2 c = let v = c .before .before in
+    let ra = v .before .before .before in
+    let a = ra .before .before .before .before .args in
+    other-at (rowsFrom (now (a .table)) 0 (a .n)) _ _ (rowsOf (a .log-rows) (now (a .log))) (a .work) _ (ra .row-at .ensures ∙ ap (λ (k : ℕ). rowAt (now (a .table)) (k * 8)) (ra .before .index16 .ensures .0)) (v .value-of .ensures) (c .if1 .left)
+
+pub false-at-spec : {M : Type 1} → statement M
+false-at-spec =
+    tie.close
+    (tie.spec
+    index16-requires
+    row-at-requires
+    cast-read-at
+    cast-tried-at
+    value-of-requires
+    cast-if1
+    first-swap-after-requires
+    returns
+    returns-2)
