@@ -187,12 +187,12 @@ fn start_words(file: &[u8], header: Header) -> [u32; 16]
 {
     let count = runfile::index8(header.words);
     let mut words = [0u32; 16];
-    run::load_words(file, &mut words[..count]);
+    run::load_words(file, header, &mut words[..count]);
     words
 }
 
 // The panel over a file that is accepted: all processes idle, nothing logged and nothing answered.
-fn start(file: &[u8], words: [u32; 16], count: usize) {
+fn start(file: &[u8], header: Header, words: [u32; 16]) {
     // Room for the lines of a key, whatever it changes: a first line of at most 22 bytes; six of at most 30 for each of
     // sixteen processes; one of 20 for each of sixteen words; a log row of 32 and an answer row of 27. That is 3,281 bytes.
     let mut out = [0u8; 4096];
@@ -207,8 +207,8 @@ fn start(file: &[u8], words: [u32; 16], count: usize) {
         log: 0,
         answers: 0,
     };
-    let next = lines::put_header(&mut out, 0, file);
-    let end = lines::put_words(&mut out, next, &words, count);
+    let next = lines::put_header(&mut out, 0, header);
+    let end = lines::put_words(&mut out, next, &words, runfile::index8(header.words));
     lines::write_text(&out, end);
     take_lines(file, bench, &mut out, &mut log, &mut answers);
 }
@@ -228,7 +228,7 @@ fn open(file: &[u8]) {
         }
         Checked::Accepted(header) => {
             let words = start_words(file, header);
-            start(file, words, runfile::index8(header.words));
+            start(file, header, words);
         }
     }
 }

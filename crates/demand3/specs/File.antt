@@ -13,7 +13,8 @@ use Rattle.runfile.specs.declared.Row.{Row}
 use Rattle.runfile.specs.declared.Room.{Room}
 use Rattle.runfile.specs.declared.Checked.{Checked}
 use Rattle.runfile.specs.declared.Checked.the-variants as checked
-use Rattle.runfile.specs.Layout.{byteAt, u16At, headerIn, rowsStart, rowAt, scheduleIn}
+use Rattle.runfile.specs.Layout.{byteAt, headerIn, rowsStart, strideOf, rowPlace, scheduleIn}
+use Rattle.runfile.specs.RowLaws.{new-fits}
 use Rattle.runfile.specs.Operations.{wordsOf, tableOf, rowNumbered}
 use Rattle.runfile.specs.OperationLaws.{length-wordsFrom, length-rowsFrom, rowNumbered-rowsFrom}
 use Rattle.runfile.specs.Refusals.{refusalOf}
@@ -38,10 +39,6 @@ abbrev pub OfFile : Header → List ℕ → List Entry → List Entry → List �
 OfFile h f = Demand3 (tableOf h f) (h .processes) (wordsOf h f) (scheduleIn h f)
 
 module _ (f : List ℕ) (bytes : Bytes f) where
-  sixteen : (at : ℕ) → u16At f at < 65536
-  unfolding u16At
-  sixteen at = let a : byteAt f at < 256 = bytes at in let b : byteAt f (at + 1) < 256 = bytes (at + 1) in omega arith
-
   -- a row that is lawful is good: kind 0 reads, and kind 1 has an old and a new that differ
   good-row : (W : ℕ) (row : Row) → row .kind ≤ 1 → row .word < W → row .new < 65536 → (row .kind ≡ 1 → row .old ≡ row .new → ⊥) → Good W row
   good-row W row few inside fits differ =
@@ -58,24 +55,23 @@ module _ (f : List ℕ) (bytes : Bytes f) where
   module _ (h : Header) (room : Room) (l : Lawful h f room) where
     many : length (tableOf h f) ≡ h .rows
     unfolding tableOf
-    many = length-rowsFrom f (rowsStart h) (h .rows)
+    many = length-rowsFrom (strideOf h) f (rowsStart h) (h .rows)
 
     numbered : (k : ℕ) → k < h .rows → rowOf h f k ≡ rowNumbered (tableOf h f) k
     unfolding tableOf
-    numbered k g = sym (rowNumbered-rowsFrom f (rowsStart h) (h .rows) k g)
+    numbered k g = sym (rowNumbered-rowsFrom (strideOf h) f (rowsStart h) (h .rows) k g)
 
     within : {k : ℕ} → k < length (tableOf h f) → k < h .rows
     within g = let m : length (tableOf h f) ≡ h .rows = many in omega arith
 
     good : (k : ℕ) → k < h .rows → Good (h .words) (rowOf h f k)
-    unfolding rowAt
     good k g =
-        good-row (h .words) (rowOf h f k) (l .rows k g .kind) (l .rows k g .word) (sixteen (rowsStart h + k * 8 + 6)) (l .differ k g)
+        good-row (h .words) (rowOf h f k) (l .rows k g .kind) (l .rows k g .word) (new-fits f bytes (strideOf h) (rowPlace (strideOf h) (rowsStart h) k)) (l .differ k g)
 
     pub plan : Plan (h .processes) (length (wordsOf h f)) (tableOf h f)
     unfolding wordsOf
     plan =
-        rw (length-wordsFrom f (h .words))
+        rw (length-wordsFrom (h .version) f (h .words))
         (record {
           some-word = l .head .some-word;
           good = λ k g. subst (Good (h .words)) (numbered k (within g)) (good k (within g));
@@ -94,7 +90,7 @@ module _ (f : List ℕ) (bytes : Bytes f) where
     words-front : (words : List ℕ) → take (h .words) (infront (endOf h f .words) words) ≡ endOf h f .words
     unfolding infront endOf wordsOf
     words-front words =
-        ap (λ n. take n (endOf h f .words ++ drop (length (endOf h f .words)) words)) (sym (words-stay (tableOf h f) (wordsOf h f) (h .processes) plan (scheduleIn h f) ∙ length-wordsFrom f (h .words)))
+        ap (λ n. take n (endOf h f .words ++ drop (length (endOf h f .words)) words)) (sym (words-stay (tableOf h f) (wordsOf h f) (h .processes) plan (scheduleIn h f) ∙ length-wordsFrom (h .version) f (h .words)))
         ∙ take-append-seam (endOf h f .words) (drop (length (endOf h f .words)) words)
 
     -- the buffers as a run leaves them, read: the first n rows of the log, the first m of the answers, and W words

@@ -5,6 +5,7 @@
 mod text;
 
 use run::Outcome;
+use runfile::Header;
 pub use text::put;
 pub use text::put_name;
 pub use text::put_number;
@@ -13,11 +14,6 @@ pub use text::write_text;
 // A number of a buffer, as wide as text takes it.
 fn wide(n: u32) -> u64 {
     n as u64
-}
-
-// A number of two bytes, low byte first.
-fn two_bytes(low: u8, high: u8) -> u64 {
-    low as u64 + 256 * high as u64
 }
 
 // Puts the line of one word: its number, its value and its flip bits as one number.
@@ -78,15 +74,12 @@ fn put_rows(out: &mut [u8], at: usize, name: &[u8], rows: &[u32], count: usize) 
 }
 
 // Puts the first line of a run: P, W, the number of rows and S, as the header has them.
-pub fn put_header(out: &mut [u8], at: usize, file: &[u8]) -> usize {
-    if file.len() < 11 {
-        return at;
-    }
+pub fn put_header(out: &mut [u8], at: usize, header: Header) -> usize {
     let mut next = put_name(out, at, b"run");
-    next = put_number(out, next, runfile::index8(file[5]) as u64);
-    next = put_number(out, next, runfile::index8(file[6]) as u64);
-    next = put_number(out, next, two_bytes(file[7], file[8]));
-    next = put_number(out, next, two_bytes(file[9], file[10]));
+    next = put_number(out, next, header.processes as u64);
+    next = put_number(out, next, header.words as u64);
+    next = put_number(out, next, header.rows as u64);
+    next = put_number(out, next, header.steps as u64);
     put(out, next, b'\n')
 }
 
@@ -96,14 +89,6 @@ pub fn put_refusal(out: &mut [u8], at: usize, number: u32, place: usize) -> usiz
     next = put_number(out, next, wide(number));
     next = put_number(out, next, place as u64);
     put(out, next, b'\n')
-}
-
-// W, as the header has it; a file that is refused as too short has none.
-fn words_of(file: &[u8]) -> usize {
-    if file.len() < 11 {
-        return 0;
-    }
-    runfile::index8(file[6])
 }
 
 // Puts the lines of what a run came to, from its outcome and from what stands in the lent buffers after it.
@@ -122,8 +107,9 @@ pub fn put_outcome(
             log: log_rows,
             answers: answer_rows,
         } => {
-            let mut next = put_header(out, at, file);
-            next = put_words(out, next, words, words_of(file));
+            let header = runfile::header_or_zeros(file);
+            let mut next = put_header(out, at, header);
+            next = put_words(out, next, words, runfile::index8(header.words));
             next = put_rows(out, next, b"log", log, log_rows);
             put_rows(out, next, b"answer", answers, answer_rows)
         }

@@ -7,7 +7,7 @@ use mathlib.Core.List.{List, _++_}
 use lib.Dec.{eqb}
 use lib.ListN.{length, getD, take, drop}
 use Rattle.runfile.specs.declared.Row.{Row}
-use Rattle.runfile.specs.Layout.{byteAt}
+use Rattle.runfile.specs.Layout.{rowOfTable}
 use Rattle.runfile.specs.Lines.{Lined}
 use Rattle.runfile.specs.Lawful.{LawfulByte}
 use Rattle.runfile.specs.Operations.{rowsFrom}
@@ -36,17 +36,17 @@ pub record Holds (s : State) (log answers : List ℕ) (m k : ℕ) (words′ log�
 unfoldable pub stateLent : ℕ → Standing → (words log answers : List ℕ) → State
 stateLent P from words log answers = record { words = words; processes = take P (from .processes); log = rowsOf (from .log) log; answers = rowsOf (from .answers) answers }
 
--- a table of n rows on these words; bytes that are actions of the first P processes; room for a log row and an answer row for each byte;
+-- a table of n rows of this size on these words; bytes that are actions of the first P processes; room for a log row and an answer row for each byte;
 -- and sane records: an open row is in the table, in the midst of work one is open, and a row that is announced is there
-pub record Runnable (table : List ℕ) (n : ℕ) (bytes words log answers : List ℕ) (P : ℕ) (from : Standing) : Type 0 where
-  pub lined : Lined table n
-  pub on-words : (k : ℕ) → k < n → byteAt table (k * 8 + 2) < length words
+pub record Runnable (stride : ℕ) (table : List ℕ) (n : ℕ) (bytes words log answers : List ℕ) (P : ℕ) (from : Standing) : Type 0 where
+  pub lined : Lined stride table n
+  pub on-words : (k : ℕ) → k < n → rowOfTable stride table k .word < length words
   pub present : P ≤ 16
   pub lawful : (i : ℕ) → i < length bytes → LawfulByte P (getD bytes i 0)
   pub early : from .position + length bytes ≤ 1024
   pub log-room : (from .log + length bytes) * 5 ≤ length log
   pub answers-room : (from .answers + length bytes) * 5 ≤ length answers
-  pub sane : (p : ℕ) → p < P → Sane (rowsFrom table 0 n) p (getD (from .processes) p nobody)
+  pub sane : (p : ℕ) → p < P → Sane (rowsFrom stride table 0 n) p (getD (from .processes) p nobody)
 
 -- what is left: the first P records are the state's, the others as they were; and the buffers hold the state
 pub record Left (s : State) (P : ℕ) (from : Standing) (size : ℕ) (log answers : List ℕ) (r : Standing) (words′ log′ answers′ : List ℕ) : Type 0 where
@@ -55,9 +55,9 @@ pub record Left (s : State) (P : ℕ) (from : Standing) (size : ℕ) (log answer
   pub holds : Holds s log answers (r .log) (r .answers) words′ log′ answers′
 
 -- the state after the bytes
-abbrev pub Runs : (table : List ℕ) (n : ℕ) (bytes words log answers : List ℕ) (P : ℕ) (from r : Standing) (words′ log′ answers′ : List ℕ) → Type 0
-Runs table n bytes words log answers P from =
-    Left (after (rowsFrom table 0 n) (from .position) bytes (stateLent P from words log answers)) P from (length bytes) log answers
+abbrev pub Runs : (stride : ℕ) (table : List ℕ) (n : ℕ) (bytes words log answers : List ℕ) (P : ℕ) (from r : Standing) (words′ log′ answers′ : List ℕ) → Type 0
+Runs stride table n bytes words log answers P from =
+    Left (after (rowsFrom stride table 0 n) (from .position) bytes (stateLent P from words log answers)) P from (length bytes) log answers
 
 -- A5: the position with which a false enters the log, and the log then, as the rule of A5 has it
 unfoldable pub falseAt : List Row → Row → List Entry → Work → ℕ

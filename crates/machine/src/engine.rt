@@ -24,10 +24,11 @@ use super::recovery::reply_of;
 use super::said::entry_of;
 ghost use Rattle.machine.specs.Part.{Runnable, Runs};
 
-// Runs the bytes of `schedule` over the records and rows of `from`, whose first `present` records are processes.
+// Runs the bytes of `schedule`, with the n rows of a table, `stride` bytes from one to the next, over the records and rows of `from`, whose first `present` records are processes.
 // In each way the named record is read again and stored again: so only what that way changes is moved.
 pub fn run_bytes(
     table: &[u8],
+    stride: usize,
     n: usize,
     schedule: &[u8],
     words: &mut [u32],
@@ -36,10 +37,10 @@ pub fn run_bytes(
     present: usize,
     from: Standing,
 ) -> Standing
-    requires { ⌜ Runnable (now table) n (now schedule) (now words) (now log) (now answers) present from ⌝ }
-    ensures { λ r. ⌜ Runs (now (table .entry)) n (now (schedule .entry)) (now (words .entry)) (now (log .entry)) (now (answers .entry)) present from r (now (words .exit)) (now (log .exit)) (now (answers .exit)) ⌝ }
+    requires { ⌜ Runnable stride (now table) n (now schedule) (now words) (now log) (now answers) present from ⌝ }
+    ensures { λ r. ⌜ Runs stride (now (table .entry)) n (now (schedule .entry)) (now (words .entry)) (now (log .entry)) (now (answers .entry)) present from r (now (words .exit)) (now (log .exit)) (now (answers .exit)) ⌝ }
 {
-    let counts = runfile::counts_of(table, n);
+    let counts = runfile::counts_of(table, stride, n);
     let firsts = runfile::firsts_of(counts);
     let from_position = from.position;
     let mut processes = from.processes;
@@ -94,8 +95,8 @@ pub fn run_bytes(
                     let number = number_of(stage);
                     match number {
                         0 => {
-                            let operation = runfile::row_at(table, k);
-                            let now = word_now(table, k, words);
+                            let operation = runfile::row_at(table, stride, k);
+                            let now = word_now(table, stride, k, words);
                             let status = after_read(operation, now, position);
                             processes[at] = Process { status, ..process };
                         }
@@ -117,14 +118,14 @@ pub fn run_bytes(
                             };
                         }
                         3 => {
-                            let now = word_now(table, k, words);
+                            let now = word_now(table, stride, k, words);
                             if now == seen {
                                 let yes = Maybe::Is(Answer::True);
                                 let status = busy(Stage::A5, seen, read_at, position, yes);
                                 processes[at] = Process { status, ..process };
-                                let operation = runfile::row_at(table, k);
+                                let operation = runfile::row_at(table, stride, k);
                                 let new = word::swapped_of(me as u32, operation.new, seen);
-                                put_word(table, k, words, new);
+                                put_word(table, stride, k, words, new);
                                 let won = entry_of(position as u32, me, row, yes);
                                 rows::insert_row(log, log_rows, won);
                                 log_rows += 1;
@@ -148,7 +149,7 @@ pub fn run_bytes(
                                 tried_at,
                                 answer,
                             };
-                            log_rows = enter(table, n, log, log_rows, me, work);
+                            log_rows = enter(table, stride, n, log, log_rows, me, work);
                         }
                         6 => {
                             let stored = process.stored;
@@ -162,7 +163,7 @@ pub fn run_bytes(
                             processes[at] = Process { status, ..process };
                         }
                         8 => {
-                            let now = word_now(table, k, words);
+                            let now = word_now(table, stride, k, words);
                             let next = by_bit(me, now, process.kept);
                             let status = busy(next, now, read_at, tried_at, answer);
                             processes[at] = Process { status, ..process };

@@ -9,7 +9,7 @@ use runfile::Row;
 ghost use mathlib.Core.Path.{_≡_};
 ghost use Prim.Native.Nat.{_+_, _*_, _≤_};
 ghost use lib.ListN.{length, getD, set};
-ghost use Rattle.runfile.specs.Layout.{rowAt};
+ghost use Rattle.runfile.specs.Layout.{rowOfTable};
 ghost use Rattle.runfile.specs.Operations.{rowsFrom};
 ghost use Rattle.rows.specs.Buffers.{rowsOf};
 ghost use Rattle.machine.specs.Reach.{Reach, Looked};
@@ -17,20 +17,20 @@ ghost use Rattle.machine.specs.Part.{falseAt, Entered};
 ghost use Rattle.machine.specs.Steps.{afterRead};
 
 // The word that row k is on, as it stands now.
-pub fn word_now(table: &[u8], k: usize, words: &[u32]) -> u32
-    requires { ⌜ Reach (now table) k (now words) ⌝ }
-    ensures { λ r. ⌜ r ≡ getD (now (words .entry)) (rowAt (now (table .entry)) (k * 8) .word) 0 ⌝ }
+pub fn word_now(table: &[u8], stride: usize, k: usize, words: &[u32]) -> u32
+    requires { ⌜ Reach stride (now table) k (now words) ⌝ }
+    ensures { λ r. ⌜ r ≡ getD (now (words .entry)) (rowOfTable stride (now (table .entry)) k .word) 0 ⌝ }
 {
-    let w = runfile::index8(table[k * 8 + 2]);
+    let w = runfile::index8(runfile::word_of_row(table, stride, k));
     words[w]
 }
 
 // Puts a number into the word that row k is on.
-pub fn put_word(table: &[u8], k: usize, words: &mut [u32], new: u32)
-    requires { ⌜ Reach (now table) k (now words) ⌝ }
-    ensures { λ _. ⌜ now (words .exit) ≡ set (now (words .entry)) (rowAt (now (table .entry)) (k * 8) .word) new ⌝ }
+pub fn put_word(table: &[u8], stride: usize, k: usize, words: &mut [u32], new: u32)
+    requires { ⌜ Reach stride (now table) k (now words) ⌝ }
+    ensures { λ _. ⌜ now (words .exit) ≡ set (now (words .entry)) (rowOfTable stride (now (table .entry)) k .word) new ⌝ }
 {
-    let w = runfile::index8(table[k * 8 + 2]);
+    let w = runfile::index8(runfile::word_of_row(table, stride, k));
     words[w] = new;
 }
 
@@ -67,24 +67,32 @@ pub fn after_read(row: Row, word: u32, position: u16) -> Status
 
 // The position with which a "false" enters the log: a lost swap, whose value was old, takes that of the first swap on
 // its word after its A1; any other that of its A1.
-fn false_at(table: &[u8], n: usize, log: &[u32], log_rows: usize, work: Work) -> u32
-    requires { ⌜ Looked (now table) n (work .row) (now log) «log_rows» ⌝ }
-    ensures { λ r. ⌜ r ≡ falseAt (rowsFrom (now (table .entry)) 0 n) (rowAt (now (table .entry)) (work .row * 8)) (rowsOf «log_rows» (now (log .entry))) work ⌝ }
+fn false_at(table: &[u8], stride: usize, n: usize, log: &[u32], log_rows: usize, work: Work) -> u32
+    requires { ⌜ Looked stride (now table) n (work .row) (now log) «log_rows» ⌝ }
+    ensures { λ r. ⌜ r ≡ falseAt (rowsFrom stride (now (table .entry)) 0 n) (rowOfTable stride (now (table .entry)) (work .row)) (rowsOf «log_rows» (now (log .entry))) work ⌝ }
 {
     let k = runfile::index16(work.row);
-    let row = runfile::row_at(table, k);
+    let row = runfile::row_at(table, stride, k);
     let read_at = work.read_at as u32;
     let tried_at = work.tried_at as u32;
     if word::value_of(work.seen) == row.old as u32 {
-        return rows::first_swap_after(table, n, log, log_rows, read_at, row.word, tried_at);
+        return rows::first_swap_after(table, stride, n, log, log_rows, read_at, row.word, tried_at);
     }
     read_at
 }
 
 // A5: puts into the log what it gets of the answer that is stored. Answers how many rows the log has then.
-pub fn enter(table: &[u8], n: usize, log: &mut [u32], log_rows: usize, me: u8, work: Work) -> usize
-    requires { ⌜ Looked (now table) n (work .row) (now log) «log_rows» × («log_rows» * 5 + 5 ≤ length (now log)) ⌝ }
-    ensures { λ r. ⌜ Entered (rowsFrom (now (table .entry)) 0 n) (rowAt (now (table .entry)) (work .row * 8)) (now (log .entry)) «log_rows» me work r (now (log .exit)) ⌝ }
+pub fn enter(
+    table: &[u8],
+    stride: usize,
+    n: usize,
+    log: &mut [u32],
+    log_rows: usize,
+    me: u8,
+    work: Work,
+) -> usize
+    requires { ⌜ Looked stride (now table) n (work .row) (now log) «log_rows» × («log_rows» * 5 + 5 ≤ length (now log)) ⌝ }
+    ensures { λ r. ⌜ Entered (rowsFrom stride (now (table .entry)) 0 n) (rowOfTable stride (now (table .entry)) (work .row)) (now (log .entry)) «log_rows» me work r (now (log .exit)) ⌝ }
 {
     let answer = work.answer;
     let Maybe::Is(said) = answer else {
@@ -98,7 +106,7 @@ pub fn enter(table: &[u8], n: usize, log: &mut [u32], log_rows: usize, me: u8, w
             log_rows + 1
         }
         Answer::False => {
-            let at = false_at(table, n, log, log_rows, work);
+            let at = false_at(table, stride, n, log, log_rows, work);
             let lost = entry_of(at, me, work.row, answer);
             rows::insert_row(log, log_rows, lost);
             log_rows + 1

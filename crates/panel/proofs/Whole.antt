@@ -6,7 +6,7 @@ use mathlib.Core.List.{List, [], _∷_}
 use native.Mathlib.Omega.{arith}
 use lib.ListN.{length, getD, take, drop}
 use Rattle.runfile.specs.declared.Header.{Header}
-use Rattle.runfile.specs.Layout.{rowsStart}
+use Rattle.runfile.specs.Layout.{rowsStart, strideOf}
 use Rattle.runfile.specs.Operations.{tableOf}
 use Rattle.runfile.specs.Lawful.{LawfulByte, lawful-byte}
 use Rattle.machine.specs.declared.Process.{Process}
@@ -35,15 +35,15 @@ module _ (h : Header) (f : List ℕ) (k : Pressing) (l : Lent) (ft : Fit h f k l
   sane-key : (p : ℕ) → p < h .processes → Sane (tableOf h f) p (getD (l .processes) p nobody)
   sane-key p i = sane-of (tableOf h f) p (getD (l .processes) p nobody) (each-possible (tableOf h f) (l .processes) 0 (h .processes) p (ft .possible) (omega arith) (omega arith))
 
-  module _ (rows-at n P : ℕ) (e : rows-at ≡ rowsStart h) (q : n ≡ h .rows) (here : P ≡ h .processes) where
+  module _ (stride rows-at n P : ℕ) (z : stride ≡ strideOf h) (e : rows-at ≡ rowsStart h) (q : n ≡ h .rows) (here : P ≡ h .processes) where
     -- it may be run
-    pub able-in : Runnable (take (length f - rows-at) (drop rows-at f)) n (k .byte ∷ []) (l .words) (l .log) (l .answers) P from
+    pub able-in : Runnable stride (take (length f - rows-at) (drop rows-at f)) n (k .byte ∷ []) (l .words) (l .log) (l .answers) P from
     able-in =
         let lined = lined-part h f ample (ft .lawful) in
         let early = ft .early in
         let log-room = ft .log-room in
         let answers-room = ft .answers-room in
-        rw (part-all f rows-at, e, q, here)
+        rw (part-all f rows-at, z, e, q, here)
         (record {
           lined = lined;
           on-words = λ j i. let a = words-part h f ample (ft .lawful) j i in let b = ft .words-room in omega arith;
@@ -56,11 +56,11 @@ module _ (h : Header) (f : List ℕ) (k : Pressing) (l : Lent) (ft : Fit h f k l
         })
 
     -- and what it leaves is what the key comes to
-    pub went : (r : Standing) (words log answers : List ℕ) → Runs (take (length f - rows-at) (drop rows-at f)) n (k .byte ∷ []) (l .words) (l .log) (l .answers) P from r words log answers
+    pub went : (r : Standing) (words log answers : List ℕ) → Runs stride (take (length f - rows-at) (drop rows-at f)) n (k .byte ∷ []) (l .words) (l .log) (l .answers) P from r words log answers
         → Leaves (carried h f k l) (Went (r .log) (r .answers)) (r .processes) words log answers
     unfolding stepped stateOf after stateLent
     went r words log answers left =
-        let m = rw (part-all f rows-at, e, q, here, table-part h f) at left in
+        let m = rw (part-all f rows-at, z, e, q, here, table-part h f) at left in
         record {
           result = ap₂ Went (m .holds .log-count) (m .holds .answers-count);
           processes-are = m .processes-are;

@@ -14,7 +14,7 @@ use borrow.Author.Tests.{ltb-true, ltb-false, le-ltb}
 use Rattle.runfile.specs.declared.Header.{Header}
 use Rattle.runfile.specs.declared.Row.{Row}
 use Rattle.runfile.specs.declared.Checked.the-variants.{Accepted}
-use Rattle.runfile.specs.Layout.{scheduleIn, rowsStart}
+use Rattle.runfile.specs.Layout.{scheduleIn, rowsStart, strideOf}
 use Rattle.runfile.specs.Operations.{wordsFrom, wordsOf, tableOf, rowsFrom, rowNumbered}
 use Rattle.runfile.specs.OperationLaws.{length-wordsFrom, rowNumbered-rowsFrom, rowNumbered-past}
 use Rattle.runfile.specs.Refusals.{refusalOf}
@@ -107,9 +107,9 @@ module _ (f words log answers : List ℕ) (h : Header) (fine : refusalOf f (room
   unfolding tableOf
   inside k = go (ltb k (h .rows)) refl
     where
-      go : (c : Bool) → ltb k (h .rows) ≡ c → rowNumbered (rowsFrom f (rowsStart h) (h .rows)) k .word < h .words
-      go true e = rw (rowNumbered-rowsFrom f (rowsStart h) (h .rows) k (ltb-true k (h .rows) e)) (l .rows k (ltb-true k (h .rows) e) .word)
-      go false e = rw (rowNumbered-past f (rowsStart h) (h .rows) k (ltb-false k (h .rows) e)) (l .head .some-word)
+      go : (c : Bool) → ltb k (h .rows) ≡ c → rowNumbered (rowsFrom (strideOf h) f (rowsStart h) (h .rows)) k .word < h .words
+      go true e = rw (rowNumbered-rowsFrom (strideOf h) f (rowsStart h) (h .rows) k (ltb-true k (h .rows) e)) (l .rows k (ltb-true k (h .rows) e) .word)
+      go false e = rw (rowNumbered-past (strideOf h) f (rowsStart h) (h .rows) k (ltb-false k (h .rows) e)) (l .head .some-word)
 
   module _ (t byte : ℕ) (s : State) (g : Good t s) (in-schedule : t < h .steps) (fit : LawfulByte P byte) where
     abbrev k : Pressing
@@ -199,10 +199,10 @@ module _ (f words log answers : List ℕ) (h : Header) (fine : refusalOf f (room
   unfolding begin wordsOf
   good-begin = record {
     all = length-replicate P fresh;
-    words-all = length-wordsFrom f (h .words);
+    words-all = length-wordsFrom (h .version) f (h .words);
     log-few = omega arith;
     answers-few = omega arith;
-    each = lives-begin rows P (wordsFrom f (h .words));
+    each = lives-begin rows P (wordsFrom (h .version) f (h .words));
   }
 
   module _ (idle : take P records ≡ replicate P fresh) where

@@ -12,6 +12,7 @@ ghost use mathlib.Core.Path.{_≡_};
 ghost use mathlib.Core.Bool.{_||_};
 ghost use Prim.Native.Nat.{_+_, _*_, _≤_};
 ghost use lib.ListN.{length};
+ghost use Rattle.runfile.specs.Format.{RowSize};
 ghost use Rattle.runfile.specs.Operations.{rowsFrom, rowNumbered, reads};
 ghost use Rattle.runfile.specs.Lawful.{Lawful};
 ghost use Rattle.runfile.specs.Lines.{Lined};
@@ -20,9 +21,16 @@ ghost use Rattle.panel.specs.Possible as possible;
 ghost use Rattle.panel.specs.Press as press;
 
 // Whether a record cannot be, whose process has `count` rows from row `first` on.
-fn is_impossible(table: &[u8], n: usize, first: u16, count: u16, process: Process) -> bool
-    requires { ⌜ (n * 8 ≤ length (now table)) × (first + count ≤ n) ⌝ }
-    ensures { λ r. ⌜ r ≡ (possible.misplaced first count process || possible.misdone (reads (rowNumbered (rowsFrom (now (table .entry)) 0 n) (rowOpen (process .opened)))) process) ⌝ }
+fn is_impossible(
+    table: &[u8],
+    stride: usize,
+    n: usize,
+    first: u16,
+    count: u16,
+    process: Process,
+) -> bool
+    requires { ⌜ RowSize stride × (n * stride ≤ length (now table)) × (first + count ≤ n) ⌝ }
+    ensures { λ r. ⌜ r ≡ (possible.misplaced first count process || possible.misdone (reads (rowNumbered (rowsFrom stride (now (table .entry)) 0 n) (rowOpen (process .opened)))) process) ⌝ }
 {
     if misplaced(first, count, process) {
         return true;
@@ -32,23 +40,29 @@ fn is_impossible(table: &[u8], n: usize, first: u16, count: u16, process: Proces
         // With no row open no kind is asked for.
         Opened::Nothing => misdone(false, process),
         Opened::Row(k) => {
-            let row = runfile::row_at(table, runfile::index16(k));
+            let row = runfile::row_at(table, stride, runfile::index16(k));
             misdone(row.kind == 0, process)
         }
     }
 }
 
 // Whether one of the first `present` records cannot be.
-fn any_impossible(table: &[u8], n: usize, processes: [Process; 16], present: usize) -> bool
-    requires { ⌜ (present ≤ 16) × Lined (now table) n ⌝ }
-    ensures { λ r. ⌜ r ≡ possible.anyImpossible (rowsFrom (now (table .entry)) 0 n) processes 0 present ⌝ }
+fn any_impossible(
+    table: &[u8],
+    stride: usize,
+    n: usize,
+    processes: [Process; 16],
+    present: usize,
+) -> bool
+    requires { ⌜ (present ≤ 16) × Lined stride (now table) n ⌝ }
+    ensures { λ r. ⌜ r ≡ possible.anyImpossible (rowsFrom stride (now (table .entry)) 0 n) processes 0 present ⌝ }
 {
-    let counts = runfile::counts_of(table, n);
+    let counts = runfile::counts_of(table, stride, n);
     let firsts = runfile::firsts_of(counts);
     let mut p = 0;
     while p < present {
         let process = processes[p];
-        if is_impossible(table, n, firsts[p], counts[p], process) {
+        if is_impossible(table, stride, n, firsts[p], counts[p], process) {
             return true;
         }
         p += 1;
@@ -97,10 +111,11 @@ fn sound_verdict(
     if 1023 < position {
         return Verdict::Not(Why::Record, 0);
     }
+    let stride = runfile::stride_of(header);
     let rows_at = runfile::rows_start(header);
     let rows = runfile::index16(header.rows);
     let present = runfile::index8(header.processes);
-    if any_impossible(&file[rows_at..], rows, processes, present) {
+    if any_impossible(&file[rows_at..], stride, rows, processes, present) {
         return Verdict::Not(Why::Record, 0);
     }
     if runfile::is_bad_byte(byte, header.processes) {

@@ -44,6 +44,7 @@ pub fn press(
             outcome: Outcome::Refused(why, place),
         },
         Verdict::Fine(header) => {
+            let stride = runfile::stride_of(header);
             let rows_at = runfile::rows_start(header);
             let rows = runfile::index16(header.rows);
             let present = runfile::index8(header.processes);
@@ -56,6 +57,7 @@ pub fn press(
             };
             let left = machine::run_bytes(
                 &file[rows_at..],
+                stride,
                 rows,
                 &key,
                 words,

@@ -15,9 +15,9 @@ pub record Places (log : List ℕ) (rows position r : ℕ) : Type 0 where
   pub result : r ≡ place position (rowsOf rows log)
   pub within : r ≤ rows
 
--- `first_swap_after(table, operations, log, rows, after, word, none)`
-abbrev pub FirstSwapped : (table : List ℕ) (operations : ℕ) (log : List ℕ) (rows after word none r : ℕ) → Type 0
-FirstSwapped table operations log rows after word none r = r ≡ firstSwap (rowsFrom table 0 operations) word after none (rowsOf rows log)
+-- `first_swap_after(table, stride, operations, log, rows, after, word, none)`
+abbrev pub FirstSwapped : (stride : ℕ) (table : List ℕ) (operations : ℕ) (log : List ℕ) (rows after word none r : ℕ) → Type 0
+FirstSwapped stride table operations log rows after word none r = r ≡ firstSwap (rowsFrom stride table 0 operations) word after none (rowsOf rows log)
 
 -- `insert_row(log, rows, entry)`: the log before, and after
 abbrev pub Inserted : (log : List ℕ) (rows : ℕ) (e : Entry) (log′ : List ℕ) → Type 0
@@ -30,8 +30,8 @@ Added answers rows e answers′ = answers′ ≡ infront (flat (rowsOf rows answ
 pub places-one : (log : List ℕ) (rows position r q : ℕ) → Places log rows position r → Places log rows position q → r ≡ q
 places-one log rows position r q a b = a .result ∙ sym (b .result)
 
-module _ (table : List ℕ) (operations : ℕ) (log : List ℕ) (rows after word none r q : ℕ) where
-  pub first-swapped-one : FirstSwapped table operations log rows after word none r → FirstSwapped table operations log rows after word none q → r ≡ q
+module _ (stride : ℕ) (table : List ℕ) (operations : ℕ) (log : List ℕ) (rows after word none r q : ℕ) where
+  pub first-swapped-one : FirstSwapped stride table operations log rows after word none r → FirstSwapped stride table operations log rows after word none q → r ≡ q
   first-swapped-one a b = a ∙ sym b
 
 pub inserted-one : (log : List ℕ) (rows : ℕ) (e : Entry) (x y : List ℕ) → Inserted log rows e x → Inserted log rows e y → x ≡ y

@@ -5,6 +5,7 @@ use super::write_row;
 ghost use Prim.Native.Nat.{_+_, _*_, _≤_};
 ghost use mathlib.Core.Path.{_≡_};
 ghost use lib.ListN.{length};
+ghost use Rattle.runfile.specs.Format.{RowSize};
 ghost use Rattle.runfile.specs.Operations.{rowsFrom};
 ghost use Rattle.rows.specs.Log.{isSwap};
 ghost use Rattle.rows.specs.Buffers.{entryAt, shifted};
@@ -55,17 +56,18 @@ pub fn insert_row(log: &mut [u32], rows: usize, entry: Entry)
 }
 
 // Whether row i of the log is a successful swap on a word after a position. The table is the part of the file
-// with its rows, 8 bytes each, of which the third names the word; a row number past it names no row.
+// with its rows, so many bytes from one to the next; a row number past it names no row.
 fn is_swap_after(
     table: &[u8],
+    stride: usize,
     operations: usize,
     log: &[u32],
     i: usize,
     after: u32,
     word: u8,
 ) -> bool
-    requires { ⌜ (operations * 8 ≤ length (now table)) × (i * 5 + 5 ≤ length (now log)) ⌝ }
-    ensures { λ r. ⌜ r ≡ isSwap (rowsFrom (now (table .entry)) 0 operations) word after (entryAt (now (log .entry)) (i * 5)) ⌝ }
+    requires { ⌜ RowSize stride × (operations * stride ≤ length (now table)) × (i * 5 + 5 ≤ length (now log)) ⌝ }
+    ensures { λ r. ⌜ r ≡ isSwap (rowsFrom stride (now (table .entry)) 0 operations) word after (entryAt (now (log .entry)) (i * 5)) ⌝ }
 {
     let at = i * 5;
     if log[at + 3] != 1 {
@@ -78,13 +80,14 @@ fn is_swap_after(
     if row >= operations {
         return false;
     }
-    table[row * 8 + 2] == word
+    runfile::word_of_row(table, stride, row) == word
 }
 
 // The position of the front-most of the first `rows` rows that is a successful swap on a word after a position;
 // `none` where there is none.
 pub fn first_swap_after(
     table: &[u8],
+    stride: usize,
     operations: usize,
     log: &[u32],
     rows: usize,
@@ -92,12 +95,12 @@ pub fn first_swap_after(
     word: u8,
     none: u32,
 ) -> u32
-    requires { ⌜ (operations * 8 ≤ length (now table)) × (rows * 5 ≤ length (now log)) ⌝ }
-    ensures { λ r. ⌜ FirstSwapped (now (table .entry)) operations (now (log .entry)) rows after word none r ⌝ }
+    requires { ⌜ RowSize stride × (operations * stride ≤ length (now table)) × (rows * 5 ≤ length (now log)) ⌝ }
+    ensures { λ r. ⌜ FirstSwapped stride (now (table .entry)) operations (now (log .entry)) rows after word none r ⌝ }
 {
     let mut i = 0;
     while i < rows {
-        if is_swap_after(table, operations, log, i, after, word) {
+        if is_swap_after(table, stride, operations, log, i, after, word) {
             return log[i * 5];
         }
         i += 1;

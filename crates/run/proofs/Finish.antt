@@ -11,7 +11,7 @@ use lib.ListN.{length, getD, take, drop, replicate, length-set, List·getD-eq-de
 use Rattle.runfile.specs.declared.Header.{Header}
 use Rattle.runfile.specs.declared.Row.{Row}
 use Rattle.runfile.specs.declared.Checked.the-variants.{Accepted}
-use Rattle.runfile.specs.Layout.{rowAt, rowsStart, scheduleStart, scheduleIn}
+use Rattle.runfile.specs.Layout.{rowsStart, strideOf, scheduleStart, scheduleIn}
 use Rattle.runfile.specs.Actions.{Action, step as steps, crash as crashes, wake as wakes, crashAll as crashesAll, none as idles, action, named}
 use Rattle.runfile.specs.Operations.{wordsFrom, wordsOf, rowsFrom, tableOf}
 use Rattle.runfile.specs.Lawful.{Lawful}
@@ -69,8 +69,7 @@ sane-first rows p = go (ltb p 16) refl
 
 module _ (h : Header) (f words log answers : List ℕ) (l : Lawful h f (roomOf words log answers)) where
   -- what the run asks
-  pub runnable : Runnable (drop (rowsStart h) f) (h .rows) (scheduleIn h f) (wordsFrom f (h .words)) log answers (h .processes) (atFirst fresh)
-  unfolding rowAt
+  pub runnable : Runnable (strideOf h) (drop (rowsStart h) f) (h .rows) (scheduleIn h f) (wordsFrom (h .version) f (h .words)) log answers (h .processes) (atFirst fresh)
   runnable =
       let exact = l .head .exact in
       let size = l .schedule in
@@ -79,38 +78,38 @@ module _ (h : Header) (f words log answers : List ℕ) (l : Lawful h f (roomOf w
       let answers-room = l .answers-room in
       record {
         lined = lined-part h f (roomOf words log answers) l;
-        on-words = λ k i. rw (length-wordsFrom f (h .words)) (words-part h f (roomOf words log answers) l k i);
+        on-words = λ k i. rw (length-wordsFrom (h .version) f (h .words)) (words-part h f (roomOf words log answers) l k i);
         present = l .head .processes;
         lawful = λ i b. l .actions i (let s = l .schedule in omega arith);
         early = omega arith;
         log-room = omega arith;
         answers-room = omega arith;
-        sane = λ p i. sane-first (rowsFrom (drop (rowsStart h) f) 0 (h .rows)) p;
+        sane = λ p i. sane-first (rowsFrom (strideOf h) (drop (rowsStart h) f) 0 (h .rows)) p;
       }
 
   abbrev reached : State
-  reached = after (rowsFrom (drop (rowsStart h) f) 0 (h .rows)) 0 (scheduleIn h f) (stateLent (h .processes) (atFirst fresh) (wordsFrom f (h .words)) log answers)
+  reached = after (rowsFrom (strideOf h) (drop (rowsStart h) f) 0 (h .rows)) 0 (scheduleIn h f) (stateLent (h .processes) (atFirst fresh) (wordsFrom (h .version) f (h .words)) log answers)
 
   the-end : reached ≡ endOf h f
   unfolding endOf wordsOf
-  the-end = rw (table-part h f) (ap (after (tableOf h f) 0 (scheduleIn h f)) (lent-first (h .processes) (wordsFrom f (h .words)) log answers (l .head .processes)))
+  the-end = rw (table-part h f) (ap (after (tableOf h f) 0 (scheduleIn h f)) (lent-first (h .processes) (wordsFrom (h .version) f (h .words)) log answers (l .head .processes)))
 
   end-length : length (endOf h f .words) ≡ h .words
   unfolding endOf begin wordsOf
-  end-length = words-length (tableOf h f) 0 (scheduleIn h f) (begin (h .processes) (wordsOf h f)) ∙ length-wordsFrom f (h .words)
+  end-length = words-length (tableOf h f) 0 (scheduleIn h f) (begin (h .processes) (wordsOf h f)) ∙ length-wordsFrom (h .version) f (h .words)
 
   -- in the terms of the code: where the parts begin, how many rows and processes there are, the words as they were loaded, and a fresh record
-  module _ (rows-at n schedule-at P : ℕ) (loaded′ : List ℕ) (p : Process) (ra : rows-at ≡ rowsStart h) (na : n ≡ h .rows) (sa : schedule-at ≡ scheduleStart h) (pa : P ≡ h .processes)
-      (la : loaded′ ≡ wordsFrom f (length words)) (size : length words ≡ h .words) (idle : p ≡ fresh) where
-    pub asked : Runnable (take (length f - rows-at) (drop rows-at f)) n (take (length f - schedule-at) (drop schedule-at f)) loaded′ log answers P (atFirst p)
-    asked = rw (ra, na, sa, pa, la, size, idle, part-all f (rowsStart h), part-all f (scheduleStart h)) runnable
+  module _ (stride rows-at n schedule-at P : ℕ) (loaded′ : List ℕ) (p : Process) (ta : stride ≡ strideOf h) (ra : rows-at ≡ rowsStart h) (na : n ≡ h .rows) (sa : schedule-at ≡ scheduleStart h) (pa : P ≡ h .processes)
+      (la : loaded′ ≡ wordsFrom (h .version) f (length words)) (size : length words ≡ h .words) (idle : p ≡ fresh) where
+    pub asked : Runnable stride (take (length f - rows-at) (drop rows-at f)) n (take (length f - schedule-at) (drop schedule-at f)) loaded′ log answers P (atFirst p)
+    asked = rw (ta, ra, na, sa, pa, la, size, idle, part-all f (rowsStart h), part-all f (scheduleStart h)) runnable
 
     pub told : (r : Standing) (words′ log′ answers′ : List ℕ)
-        → Runs (take (length f - rows-at) (drop rows-at f)) n (take (length f - schedule-at) (drop schedule-at f)) loaded′ log answers P (atFirst p) r words′ log′ answers′
+        → Runs stride (take (length f - rows-at) (drop rows-at f)) n (take (length f - schedule-at) (drop schedule-at f)) loaded′ log answers P (atFirst p) r words′ log′ answers′
         → Holds (endOf h f) log answers (r .log) (r .answers) words′ log′ answers′
     told r words′ log′ answers′ left =
         subst (λ s. Holds s log answers (r .log) (r .answers) words′ log′ answers′) the-end
-        (rw (ra, na, sa, pa, la, size, idle, part-all f (rowsStart h), part-all f (scheduleStart h)) at (left .holds))
+        (rw (ta, ra, na, sa, pa, la, size, idle, part-all f (rowsStart h), part-all f (scheduleStart h)) at (left .holds))
 
   -- what stands in the buffers at the end: the words' part, and behind it what stood there
   pub finish : (m k : ℕ) (part words′ log′ answers′ : List ℕ) → Holds (endOf h f) log answers m k part log′ answers′ → words′ ≡ part ++ drop (h .words) words

@@ -11,15 +11,15 @@ use Rattle.runfile.specs.Layout.{wordIn}
 use Rattle.runfile.specs.Operations.{wordsFrom}
 use Rattle.runfile.specs.OperationLaws.{length-wordsFrom}
 
-pub load-turn : (f xs words : List ℕ) (i x : ℕ) → i < length xs → words ≡ infront (wordsFrom f i) xs → x ≡ wordIn f i → set words i x ≡ infront (wordsFrom f (i + 1)) xs
+pub load-turn : (version : ℕ) (f xs words : List ℕ) (i x : ℕ) → i < length xs → words ≡ infront (wordsFrom version f i) xs → x ≡ wordIn version f i → set words i x ≡ infront (wordsFrom version f (i + 1)) xs
 unfolding infront
-load-turn f xs words i x h e g =
-    let l : length (wordsFrom f i) ≡ i = length-wordsFrom f i in
-    rw (add-one i, length-wordsFrom f (suc i), g, e, l, drop-cons xs i 0 h)
-    (set-at (wordsFrom f i) (getD xs i 0) (drop (suc i) xs) (wordIn f i) i l
-    ∙ sym (append-assoc (wordsFrom f i) (wordIn f i ∷ []) (drop (suc i) xs)))
+load-turn version f xs words i x h e g =
+    let l : length (wordsFrom version f i) ≡ i = length-wordsFrom version f i in
+    rw (add-one i, length-wordsFrom version f (suc i), g, e, l, drop-cons xs i 0 h)
+    (set-at (wordsFrom version f i) (getD xs i 0) (drop (suc i) xs) (wordIn version f i) i l
+    ∙ sym (append-assoc (wordsFrom version f i) (wordIn version f i ∷ []) (drop (suc i) xs)))
 
 -- all of a buffer of as many numbers
-pub load-end : (f xs : List ℕ) → infront (wordsFrom f (length xs)) xs ≡ wordsFrom f (length xs)
+pub load-end : (version : ℕ) (f xs : List ℕ) → infront (wordsFrom version f (length xs)) xs ≡ wordsFrom version f (length xs)
 unfolding infront
-load-end f xs = rw (length-wordsFrom f (length xs), drop-length xs, append-nil (wordsFrom f (length xs)))
+load-end version f xs = rw (length-wordsFrom version f (length xs), drop-length xs, append-nil (wordsFrom version f (length xs)))

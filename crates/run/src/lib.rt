@@ -39,9 +39,10 @@ fn run_words(
     ensures { λ r. ⌜ Holds (endOf header (now (file .entry))) (now (log .entry)) (now (answers .entry)) (r .log) (r .answers) (now (words .exit)) (now (log .exit)) (now (answers .exit)) ⌝ }
 {
     let rows = runfile::index16(header.rows);
+    let stride = runfile::stride_of(header);
     let rows_at = runfile::rows_start(header);
     let schedule_at = runfile::schedule_start(header);
-    load_words(file, words);
+    load_words(file, header, words);
     let idle = machine::fresh();
     let from = Standing {
         processes: [idle; 16],
@@ -51,6 +52,7 @@ fn run_words(
     };
     let left = machine::run_bytes(
         &file[rows_at..],
+        stride,
         rows,
         &file[schedule_at..],
         words,

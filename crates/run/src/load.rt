@@ -1,17 +1,18 @@
 // The start words of a file, written into a buffer of as many numbers.
+use runfile::Header;
 ghost use mathlib.Core.Path.{_≡_};
 ghost use Prim.Native.Nat.{_≤_};
 ghost use lib.ListN.{length};
 ghost use Rattle.runfile.specs.Layout.{wordPlace};
 ghost use Rattle.runfile.specs.Operations.{wordsFrom};
 
-pub fn load_words(file: &[u8], words: &mut [u32])
-    requires { ⌜ wordPlace (length (now words)) ≤ length (now file) ⌝ }
-    ensures { λ _. ⌜ now (words .exit) ≡ wordsFrom (now (file .entry)) (length (now (words .entry))) ⌝ }
+pub fn load_words(file: &[u8], header: Header, words: &mut [u32])
+    requires { ⌜ wordPlace (header .version) (length (now words)) ≤ length (now file) ⌝ }
+    ensures { λ _. ⌜ now (words .exit) ≡ wordsFrom (header .version) (now (file .entry)) (length (now (words .entry))) ⌝ }
 {
     let mut i = 0;
     while i < words.len() {
-        words[i] = runfile::u32_at(file, 11 + i * 4);
+        words[i] = runfile::word_at(file, header, i);
         i += 1;
     }
 }

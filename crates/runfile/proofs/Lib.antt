@@ -1,3 +1,4 @@
+pub mod Sizes
 pub mod First
 pub mod Below
 pub mod Bytes

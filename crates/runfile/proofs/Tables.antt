@@ -11,29 +11,28 @@ use lib.Dec.{eqb, ltb}
 use lib.ListN.{length, getD, set, replicate, length-set}
 use lib.Seq.{getD-set-same, getD-set-other}
 use borrow.Author.Tests.{eqb-true, eqb-false, ltb-true, ltb-false}
-use Rattle.runfile.specs.Layout.{byteAt, rowAt}
+use Rattle.runfile.specs.Layout.{rowAt, rowOfTable}
 use Rattle.runfile.specs.Operations.{rowsFrom, count}
 use Rattle.runfile.specs.OperationLaws.{rowsFrom-snoc, count-snoc, length-rowsFrom}
 use Rattle.runfile.specs.Lines.{Counted, sumTo, count-fits}
 
 -- one row more
-module _ (table : List ℕ) (k : ℕ) (counts : List ℕ) (h : Counted (rowsFrom table 0 k) counts) (q : ℕ) (is : q ≡ byteAt table (k * 8)) (small : q < 16) where
-  count-next : (p : ℕ) → count (rowsFrom table 0 (k + 1)) p ≡ cond (eqb q p) (suc (count (rowsFrom table 0 k) p)) (count (rowsFrom table 0 k) p)
-  unfolding rowAt
-  count-next p = rw (add-one k, rowsFrom-snoc table 0 k, zero-add (k * 8), is) (count-snoc (rowsFrom table 0 k) (rowAt table (k * 8)) p)
+module _ (s : ℕ) (table : List ℕ) (k : ℕ) (counts : List ℕ) (h : Counted (rowsFrom s table 0 k) counts) (q : ℕ) (is : q ≡ rowOfTable s table k .process) (small : q < 16) where
+  count-next : (p : ℕ) → count (rowsFrom s table 0 (k + 1)) p ≡ cond (eqb q p) (suc (count (rowsFrom s table 0 k) p)) (count (rowsFrom s table 0 k) p)
+  count-next p = rw (add-one k, rowsFrom-snoc s table 0 k, zero-add (k * s), is) (count-snoc (rowsFrom s table 0 k) (rowAt s table (k * s)) p)
 
-  pub counted-next : Counted (rowsFrom table 0 (k + 1)) (set counts q (getD counts q 0 + 1))
+  pub counted-next : Counted (rowsFrom s table 0 (k + 1)) (set counts q (getD counts q 0 + 1))
   counted-next = record { size = length-set counts q _ ∙ h .size; each = λ p l. go p l (eqb q p) refl }
     where
-      go : (p : ℕ) → p < 16 → (t : Bool) → eqb q p ≡ t → getD (set counts q (getD counts q 0 + 1)) p 0 ≡ count (rowsFrom table 0 (k + 1)) p
+      go : (p : ℕ) → p < 16 → (t : Bool) → eqb q p ≡ t → getD (set counts q (getD counts q 0 + 1)) p 0 ≡ count (rowsFrom s table 0 (k + 1)) p
       go p l true e =
           let same : q ≡ p = eqb-true q p e in
           let size = h .size in
-          rw (count-next p, e, ← same, getD-set-same counts q (getD counts q 0 + 1) 0 (omega arith), h .each q small, add-one (count (rowsFrom table 0 k) q))
+          rw (count-next p, e, ← same, getD-set-same counts q (getD counts q 0 + 1) 0 (omega arith), h .each q small, add-one (count (rowsFrom s table 0 k) q))
       go p l false e = rw (count-next p, e, getD-set-other counts q p (getD counts q 0 + 1) 0 (λ x. eqb-false q p e (sym x))) (h .each p l)
 
   pub few : getD counts q 0 ≤ k
-  few = rw (h .each q small) (let a = count-fits (rowsFrom table 0 k) q in let b = length-rowsFrom table 0 k in omega arith)
+  few = rw (h .each q small) (let a = count-fits (rowsFrom s table 0 k) q in let b = length-rowsFrom s table 0 k in omega arith)
 
 -- sums only grow
 pub sum-grows : (counts : List ℕ) (p n : ℕ) → p ≤ n → sumTo counts p ≤ sumTo counts n

@@ -1,7 +1,7 @@
 -- A file that is longer than the longest is decided by its first 5,196 bytes: refusals 1 to 7 look at the header, and then the length is
 -- wrong for both. So a program may read 5,196 bytes and answer as the whole file would be.
 -- Assumes nothing.
-use Prim.Native.Nat.{ℕ, _<_}
+use Prim.Native.Nat.{ℕ, _+_, _<_}
 use mathlib.Core.Path.{_≡_, refl, sym, _∙_}
 use mathlib.Core.Bool.{Bool, true, false}
 use mathlib.Core.List.{List, _∷_, _++_}
@@ -15,6 +15,7 @@ use Rattle.runfile.specs.declared.Refusal.{Refusal}
 use Rattle.runfile.specs.declared.Refusal.the-variants as refusal
 use Rattle.runfile.specs.declared.Checked.{Checked}
 use Rattle.runfile.specs.declared.Checked.the-variants.{Accepted, Refused}
+use Rattle.runfile.specs.Format.{longest-holds, longestOfAll, longest-most}
 use Rattle.runfile.specs.Layout.{u16At, marked, headerIn, lengthGiven}
 use Rattle.runfile.specs.Refusals.{outOfRange, found, firstOf, countChecks, bodyChecks, roomChecks, refusalOf}
 use Rattle.runfile.specs.Order.{passes, stops, accepts, whole-clear}
@@ -22,7 +23,7 @@ use Rattle.runfile.specs.Lawful.{in-range}
 
 -- how many bytes are enough
 abbrev pub enough : ℕ
-enough = 5196
+enough = 1 + longestOfAll
 
 -- refusals 1 to 7, and those after 8
 abbrev front : List Refusal
@@ -72,6 +73,9 @@ module _ (f : List ℕ) (room : Room) where
         let w = in-range (headerIn f .words) (whole-clear (outOfRange (headerIn f .words)) (r .1 .0)) .1 in
         let n = ltb-false 512 (headerIn f .rows) (whole-clear (ltb 512 (headerIn f .rows)) (r .1 .1 .0)) in
         let s = ltb-false 1024 (headerIn f .steps) (whole-clear (ltb 1024 (headerIn f .steps)) (r .1 .1 .1 .0)) in
+        let v : ℕ = headerIn f .version in
+        let m = longest-holds v (headerIn f .words) (headerIn f .rows) (headerIn f .steps) w n s in
+        let most = longest-most v in
         passes (found (headerIn f) (take enough f) room) (headerIn f) front (refusal.Length ∷ behind) x (same-front ∙ e)
         ∙ wrong-length (take enough f) (λ q. (let z = size in omega arith))
         ∙ sym (passes (found (headerIn f) f room) (headerIn f) front (refusal.Length ∷ behind) x e ∙ wrong-length f (λ q. omega arith))

@@ -1,6 +1,6 @@
 -- Each refusal is given exactly when the table says: `exactly`. The tests of Refusals.antt say what the propositions of Table.antt
 -- say (`tells-..`); a search finds what is first (`first-iff`, and for 9, a search in a search,
--- `field-found` and `found-field`); and the checks go in the order of their numbers.
+-- `field-found` and `found-field`); and the checks go in the order of their list.
 -- Assumes nothing.
 use Prim.Native.Nat.{ℕ, zero, suc, _+_, _*_, _-_, _/_, _%_, _≤_, _<_}
 use mathlib.Core.Path.{_≡_, refl, sym, ap, _∙_, subst}
@@ -21,11 +21,12 @@ use Rattle.runfile.specs.declared.Refusal.the-variants as refusal
 use Rattle.runfile.specs.declared.Found.{Found}
 use Rattle.runfile.specs.declared.Found.the-variants.{Nowhere, At}
 use Rattle.runfile.specs.declared.Checked.the-variants.{Accepted, Refused}
-use Rattle.runfile.specs.Layout.{marked, headerIn, rowsStart, rowPlace, scheduleIn, lengthGiven}
-use Rattle.runfile.specs.Fields.{fields, fieldAt, offsetOf, orderOf, ordered, order-at, rising}
+use Rattle.runfile.specs.Format.{offsetOf}
+use Rattle.runfile.specs.Layout.{marked, headerIn, rowsStart, strideOf, rowPlace, scheduleIn, lengthGiven}
+use Rattle.runfile.specs.Fields.{fields, fieldAt, orderOf, ordered, order-at, rising}
 use Rattle.runfile.specs.Actions.{crashAll, none, actionOf}
-use Rattle.runfile.specs.Refusals.{numberOf, outOfRange, badRead, badField, badIn, sameFields, badAction, badByte, foundIf, firstOffender, badFieldIn, firstBadField, firstRow, firstLaterRow, firstByte, whole, found, orElse, firstOf, inOrder, refusalOf}
-use Rattle.runfile.specs.Table.{Marked, BadRead, BadField, BadIn, FirstBadField, BadByte, First, rowOf, zeroByteOf, byteOf, Given, Earlier}
+use Rattle.runfile.specs.Refusals.{placeOf, outOfRange, zeroOld, zeroNew, badNumber, badField, badIn, sameFields, badAction, badByte, foundIf, firstOffender, badFieldIn, firstBadField, firstRow, firstLaterRow, firstByte, whole, found, orElse, firstOf, inOrder, refusalOf}
+use Rattle.runfile.specs.Table.{Marked, BadField, BadIn, ZeroOld, ZeroNew, FirstBadField, BadByte, First, rowOf, zeroByteOf, byteOf, Given, Earlier}
 use Rattle.runfile.specs.Table as table
 use Rattle.runfile.specs.Lawful.{LawfulByte, of-one, of-all, has-mark, in-range, not-both, no-bad-field, lawful-byte, high-action, lawful}
 use Rattle.runfile.specs.Searches.{not-found, is-found, Earliest, earliest, found-earliest, found-none}
@@ -99,11 +100,21 @@ tells-range n = record {
   false-is = λ e h. let r = in-range n e in let a = r .0 in let b = r .1 in ⊎-elim (λ q. omega arith) (λ q. omega arith) h;
 }
 
+equals : (a b : ℕ) → Tells (eqb a b) (a ≡ b)
+equals a b = record { true-is = eqb-true a b; false-is = eqb-false a b }
+
+-- which kinds must have old 0, and which new 0
+tells-old : (kind : ℕ) → Tells (zeroOld kind) (ZeroOld kind)
+tells-old kind = equals kind 0
+
+tells-new : (kind : ℕ) → Tells (zeroNew kind) (ZeroNew kind)
+tells-new kind = equals kind 0
+
 -- "a read whose old or new is not 0": one of the two
-tells-read : (kind n : ℕ) → Tells (badRead kind n) (BadRead kind n)
-tells-read kind n = record {
-  true-is = λ e. let b = both-true (eqb kind 0) (not (eqb n 0)) e in (eqb-true _ _ (b .0), differs n 0 .true-is (b .1));
-  false-is = λ e h. differs n 0 .false-is (not-both (eqb kind 0) (not (eqb n 0)) e (eq-eqb kind 0 (h .0))) (h .1);
+tells-number : (must : Bool) (Must : Type 0) (n : ℕ) → Tells must Must → Tells (badNumber must n) (Must × (n ≡ 0 → ⊥))
+tells-number must Must n tells = record {
+  true-is = λ e. let b = both-true must (not (eqb n 0)) e in (tells .true-is (b .0), differs n 0 .true-is (b .1));
+  false-is = λ e h. differs n 0 .false-is (not-both must (not (eqb n 0)) e (said-true must Must tells (h .0))) (h .1);
 }
 
 tells-field : (h : Header) (row : Row) (z : ℕ) (x : Field) → Tells (badField h row z x) (BadField h row z x)
@@ -112,47 +123,50 @@ tells-field h row z field.Process = at-least (h .processes) (row .process)
 tells-field h row z field.Kind = less 1 (row .kind)
 tells-field h row z field.Word = at-least (h .words) (row .word)
 tells-field h row z field.ZeroByte = differs z 0
-tells-field h row z field.Old = tells-read (row .kind) (row .old)
-tells-field h row z field.New = tells-read (row .kind) (row .new)
+tells-field h row z field.Old = tells-number _ _ (row .old) (tells-old (row .kind))
+tells-field h row z field.New = tells-number _ _ (row .new) (tells-new (row .kind))
 
 -- 9: both searches, over the rows and in the row, find what is first
 module _ (h : Header) (f : List ℕ) (at : ℕ) where
   abbrev start : ℕ
   start = rowsStart h
 
-  abbrev inRow : ℕ → ℕ → Found
-  inRow k i = foundIf (badIn h f start k (fieldAt i)) (rowPlace start k + offsetOf (fieldAt i))
+  abbrev s : ℕ
+  s = strideOf h
 
-  tells-in : (k : ℕ) (x : Field) → Tells (badIn h f start k x) (BadIn h f k x)
+  abbrev inRow : ℕ → ℕ → Found
+  inRow k i = foundIf (badIn h s f start k (fieldAt i)) (rowPlace s start k + offsetOf s (fieldAt i))
+
+  tells-in : (k : ℕ) (x : Field) → Tells (badIn h s f start k x) (BadIn h f k x)
   tells-in k x = tells-field h (rowOf h f k) (zeroByteOf h f k) x
 
-  field-found : firstBadField h f start (h .rows) ≡ At at → FirstBadField h f at
+  field-found : firstBadField h s f start (h .rows) ≡ At at → FirstBadField h f at
   unfolding firstBadField
   field-found e =
-      let m = earliest (badFieldIn h f start) 0 (h .rows) at e in
+      let m = earliest (badFieldIn h s f start) 0 (h .rows) at e in
       let i = earliest (inRow (m .which)) 0 (length fields) at (m .found) in
-      let t = is-found (badIn h f start (m .which) (fieldAt (i .which))) _ at (i .found) in
+      let t = is-found (badIn h s f start (m .which) (fieldAt (i .which))) _ at (i .found) in
       let w = m .within in
       record {
         row = m .which;
         within = omega arith;
         field = fieldAt (i .which);
         bad = tells-in (m .which) (fieldAt (i .which)) .true-is (t .0);
-        no-row-before = λ j l x. tells-in j x .false-is (no-bad-field h f start j (m .none-before j (omega arith) l) x);
+        no-row-before = λ j l x. tells-in j x .false-is (no-bad-field h s f start j (m .none-before j (omega arith) l) x);
         no-field-before = λ x l. tells-in (m .which) x .false-is (before m i x l);
         here = t .1;
       }
     where
-      before : (m : Earliest (badFieldIn h f start) 0 (h .rows) at) (i : Earliest (inRow (m .which)) 0 (length fields) at) (x : Field) → offsetOf x < offsetOf (fieldAt (i .which)) → badIn h f start (m .which) x ≡ false
+      before : (m : Earliest (badFieldIn h s f start) 0 (h .rows) at) (i : Earliest (inRow (m .which)) 0 (length fields) at) (x : Field) → offsetOf s x < offsetOf s (fieldAt (i .which)) → badIn h s f start (m .which) x ≡ false
       before m i x l =
           let o = ordered x in
-          let up = rising x (fieldAt (i .which)) .0 l in
+          let up = rising s x (fieldAt (i .which)) .0 l in
           let number = order-at (i .which) (i .within) in
-          subst (λ y. badIn h f start (m .which) y ≡ false) (o .1) (not-found (badIn h f start (m .which) (fieldAt (orderOf x))) _ (i .none-before (orderOf x) (omega arith) (omega arith)))
+          subst (λ y. badIn h s f start (m .which) y ≡ false) (o .1) (not-found (badIn h s f start (m .which) (fieldAt (orderOf x))) _ (i .none-before (orderOf x) (omega arith) (omega arith)))
 
-  found-field : FirstBadField h f at → firstBadField h f start (h .rows) ≡ At at
+  found-field : FirstBadField h f at → firstBadField h s f start (h .rows) ≡ At at
   unfolding firstBadField
-  found-field m = found-earliest (badFieldIn h f start) 0 (h .rows) at (record {
+  found-field m = found-earliest (badFieldIn h s f start) 0 (h .rows) at (record {
     which = m .row;
     after = omega arith;
     within = let w = m .within in omega arith;
@@ -161,7 +175,7 @@ module _ (h : Header) (f : List ℕ) (at : ℕ) where
       after = omega arith;
       within = ordered (m .field) .0;
       found = rw (ordered (m .field) .1, said-true _ _ (tells-in (m .row) (m .field)) (m .bad), m .here);
-      none-before = λ j a b. rw (said-false _ _ (tells-in (m .row) (fieldAt j)) (m .no-field-before (fieldAt j) (rising (fieldAt j) (m .field) .1 (let n = order-at j (let o = ordered (m .field) .0 in omega arith) in omega arith))));
+      none-before = λ j a b. rw (said-false _ _ (tells-in (m .row) (fieldAt j)) (m .no-field-before (fieldAt j) (rising s (fieldAt j) (m .field) .1 (let n = order-at j (let o = ordered (m .field) .0 in omega arith) in omega arith))));
     });
     none-before = λ j a b. found-none (inRow j) 0 (length fields) (λ i c d. rw (said-false _ _ (tells-in j (fieldAt i)) (m .no-row-before j b (fieldAt i))));
   })
@@ -228,72 +242,72 @@ clear-iff h f room why = (λ e at g. lost at (sym e ∙ line h f room why at .1 
     go Nowhere q no-place = refl
     go (At at) q no-place = absurd (no-place at (line h f room why at .0 q))
 
--- the refusals are numbered one by one in the order of the checks
-abbrev Numbered : ℕ → List Refusal → Type 0
-Numbered n [] = Unit
-Numbered n (why ∷ later) = (numberOf why ≡ n) × Numbered (suc n) later
+-- the checks stand in the list at their places, one by one
+abbrev pub Placed : ℕ → List Refusal → Type 0
+Placed n [] = Unit
+Placed n (why ∷ later) = (placeOf why ≡ n) × Placed (suc n) later
 
-in-order : Numbered 1 inOrder
+pub in-order : Placed 0 inOrder
 in-order = (refl, (refl, (refl, (refl, (refl, (refl, (refl, (refl, (refl, (refl, (refl, (refl, (refl, (refl, (refl, tt)))))))))))))))
 
--- so a number from 1 to 15 names one refusal
-pub numbered : (why : Refusal) → (getD inOrder (numberOf why - 1) refusal.Short ≡ why) × (1 ≤ numberOf why) × (numberOf why < 16)
-numbered refusal.Short = (refl, omega arith, omega arith)
-numbered refusal.Mark = (refl, omega arith, omega arith)
-numbered refusal.Version = (refl, omega arith, omega arith)
-numbered refusal.Processes = (refl, omega arith, omega arith)
-numbered refusal.Words = (refl, omega arith, omega arith)
-numbered refusal.Rows = (refl, omega arith, omega arith)
-numbered refusal.Steps = (refl, omega arith, omega arith)
-numbered refusal.Length = (refl, omega arith, omega arith)
-numbered refusal.Row = (refl, omega arith, omega arith)
-numbered refusal.Order = (refl, omega arith, omega arith)
-numbered refusal.Same = (refl, omega arith, omega arith)
-numbered refusal.Action = (refl, omega arith, omega arith)
-numbered refusal.WordsRoom = (refl, omega arith, omega arith)
-numbered refusal.LogRoom = (refl, omega arith, omega arith)
-numbered refusal.AnswersRoom = (refl, omega arith, omega arith)
+-- so a place in the list names one check, and each check has one
+pub placed : (why : Refusal) → (getD inOrder (placeOf why) refusal.Short ≡ why) × (placeOf why < length inOrder)
+placed refusal.Short = (refl, omega arith)
+placed refusal.Mark = (refl, omega arith)
+placed refusal.Version = (refl, omega arith)
+placed refusal.Processes = (refl, omega arith)
+placed refusal.Words = (refl, omega arith)
+placed refusal.Rows = (refl, omega arith)
+placed refusal.Steps = (refl, omega arith)
+placed refusal.Length = (refl, omega arith)
+placed refusal.Row = (refl, omega arith)
+placed refusal.Order = (refl, omega arith)
+placed refusal.Same = (refl, omega arith)
+placed refusal.Action = (refl, omega arith)
+placed refusal.WordsRoom = (refl, omega arith)
+placed refusal.LogRoom = (refl, omega arith)
+placed refusal.AnswersRoom = (refl, omega arith)
 
-pub one-refusal : (a b : Refusal) → numberOf a ≡ numberOf b → a ≡ b
-one-refusal a b e = sym (numbered a .0) ∙ (ap (λ n. getD inOrder (n - 1) refusal.Short) e ∙ numbered b .0)
+pub one-place : (a b : Refusal) → placeOf a ≡ placeOf b → a ≡ b
+one-place a b e = sym (placed a .0) ∙ (ap (λ n. getD inOrder n refusal.Short) e ∙ placed b .0)
 
--- the order of the checks, over a list that is numbered from n on
+-- the order of the checks, over a list whose places go from n on
 module _ (finds : Refusal → Found) (h : Header) (why : Refusal) (at : ℕ) where
   EarlierClear : ℕ → Type 0
-  EarlierClear n = (e : Refusal) → n ≤ numberOf e → Earlier e why → finds e ≡ Nowhere
+  EarlierClear n = (e : Refusal) → n ≤ placeOf e → Earlier e why → finds e ≡ Nowhere
 
-  refused-by : (n : ℕ) (l : List Refusal) → Numbered n l → firstOf finds l h ≡ Refused why at → (finds why ≡ At at) × EarlierClear n
+  refused-by : (n : ℕ) (l : List Refusal) → Placed n l → firstOf finds l h ≡ Refused why at → (finds why ≡ At at) × EarlierClear n
   unfolding EarlierClear
   refused-by n [] num e = absurd (let z : _≡_ {A = ℕ} 0 1 = cc in omega arith)
   refused-by n (w ∷ l) num e = go (finds w) refl (refused-by (suc n) l (num .1)) e
     where
-      next : finds w ≡ Nowhere → EarlierClear (suc n) → (e : Refusal) → n ≤ numberOf e → Earlier e why → (later : Bool) → ltb n (numberOf e) ≡ later → finds e ≡ Nowhere
+      next : finds w ≡ Nowhere → EarlierClear (suc n) → (e : Refusal) → n ≤ placeOf e → Earlier e why → (later : Bool) → ltb n (placeOf e) ≡ later → finds e ≡ Nowhere
       next q more e a b true t = more e (ltb-true _ _ t) b
-      next q more e a b false t = let x : numberOf w ≡ numberOf e = (let y = ltb-false n (numberOf e) t in let z = num .0 in omega arith) in rw (sym (one-refusal w e x)) q
+      next q more e a b false t = let x : placeOf w ≡ placeOf e = (let y = ltb-false n (placeOf e) t in let z = num .0 in omega arith) in rw (sym (one-place w e x)) q
 
       go : (t : Found) → finds w ≡ t → (firstOf finds l h ≡ Refused why at → (finds why ≡ At at) × EarlierClear (suc n)) → orElse w t (firstOf finds l h) ≡ Refused why at → (finds why ≡ At at) × EarlierClear n
-      go Nowhere q more e = let m = more e in (m .0, λ x a b. next q (m .1) x a b (ltb n (numberOf x)) refl)
+      go Nowhere q more e = let m = more e in (m .0, λ x a b. next q (m .1) x a b (ltb n (placeOf x)) refl)
       go (At place) q more e =
           let same : w ≡ why = cc in
           let there : place ≡ at = cc in
-          (rw (same, there) at q, λ x a b. absurd (let y : numberOf why ≡ n = rw same at (num .0) in omega arith))
+          (rw (same, there) at q, λ x a b. absurd (let y : placeOf why ≡ n = rw same at (num .0) in omega arith))
 
-  -- the other way: why is in the list, since its number is
-  refuses : (n : ℕ) (l : List Refusal) → Numbered n l → n ≤ numberOf why → numberOf why < n + length l → finds why ≡ At at → EarlierClear n → firstOf finds l h ≡ Refused why at
+  -- the other way: why is in the list, since its place is
+  refuses : (n : ℕ) (l : List Refusal) → Placed n l → n ≤ placeOf why → placeOf why < n + length l → finds why ≡ At at → EarlierClear n → firstOf finds l h ≡ Refused why at
   unfolding EarlierClear
   refuses n [] num a b q clear = absurd (omega arith)
-  refuses n (w ∷ l) num a b q clear = go (ltb n (numberOf why)) refl (refuses (suc n) l (num .1))
+  refuses n (w ∷ l) num a b q clear = go (ltb n (placeOf why)) refl (refuses (suc n) l (num .1))
     where
-      go : (later : Bool) → ltb n (numberOf why) ≡ later
-          → (suc n ≤ numberOf why → numberOf why < suc n + length l → finds why ≡ At at → EarlierClear (suc n) → firstOf finds l h ≡ Refused why at)
+      go : (later : Bool) → ltb n (placeOf why) ≡ later
+          → (suc n ≤ placeOf why → placeOf why < suc n + length l → finds why ≡ At at → EarlierClear (suc n) → firstOf finds l h ≡ Refused why at)
           → orElse w (finds w) (firstOf finds l h) ≡ Refused why at
       go true t more =
-          let y = ltb-true n (numberOf why) t in
+          let y = ltb-true n (placeOf why) t in
           let z = num .0 in
           rw (clear w (omega arith) (omega arith)) (more (omega arith) (omega arith) q (λ e c d. clear e (omega arith) d))
       go false t more =
-          let x : numberOf w ≡ numberOf why = (let y = ltb-false n (numberOf why) t in let z = num .0 in omega arith) in
-          rw (one-refusal w why x, q)
+          let x : placeOf w ≡ placeOf why = (let y = ltb-false n (placeOf why) t in let z = num .0 in omega arith) in
+          rw (one-place w why x, q)
 
 -- Refusal `why` is given at place `at` exactly when the table's line says so and no earlier line gives a refusal.
 pub exactly : (f : List ℕ) (room : Room) (why : Refusal) (at : ℕ)
@@ -302,21 +316,21 @@ pub exactly : (f : List ℕ) (room : Room) (why : Refusal) (at : ℕ)
 unfolding refusalOf EarlierClear
 exactly f room why at =
     let h : Header = headerIn f in (
-      λ e. let r = refused-by (found h f room) h why at 1 inOrder in-order e in (line h f room why at .0 (r .0), λ x a. clear-iff h f room x .0 (r .1 x (numbered x .1) a)),
-      λ g. refuses (found h f room) h why at 1 inOrder in-order (numbered why .1) (numbered why .2) (line h f room why at .1 (g .0)) (λ x a b. clear-iff h f room x .1 (g .1 x b)),
+      λ e. let r = refused-by (found h f room) h why at 0 inOrder in-order e in (line h f room why at .0 (r .0), λ x a. clear-iff h f room x .0 (r .1 x (omega arith) a)),
+      λ g. refuses (found h f room) h why at 0 inOrder in-order (omega arith) (placed why .1) (line h f room why at .1 (g .0)) (λ x a b. clear-iff h f room x .1 (g .1 x b)),
     )
 
 clear-all : (finds : Refusal → Found) (l : List Refusal) → ((why : Refusal) → finds why ≡ Nowhere) → Clear finds l
 clear-all finds [] c = tt
 clear-all finds (w ∷ l) c = (c w, clear-all finds l c)
 
-all-clear : (finds : Refusal → Found) (why : Refusal) (n : ℕ) (l : List Refusal) → Numbered n l → n ≤ numberOf why → numberOf why < n + length l → Clear finds l → finds why ≡ Nowhere
+all-clear : (finds : Refusal → Found) (why : Refusal) (n : ℕ) (l : List Refusal) → Placed n l → n ≤ placeOf why → placeOf why < n + length l → Clear finds l → finds why ≡ Nowhere
 all-clear finds why n [] num a b c = absurd (omega arith)
-all-clear finds why n (w ∷ l) num a b c = go (ltb n (numberOf why)) refl (all-clear finds why (suc n) l (num .1))
+all-clear finds why n (w ∷ l) num a b c = go (ltb n (placeOf why)) refl (all-clear finds why (suc n) l (num .1))
   where
-    go : (later : Bool) → ltb n (numberOf why) ≡ later → (suc n ≤ numberOf why → numberOf why < suc n + length l → Clear finds l → finds why ≡ Nowhere) → finds why ≡ Nowhere
-    go true t more = let y = ltb-true n (numberOf why) t in more (omega arith) (omega arith) (c .1)
-    go false t more = let x : numberOf w ≡ numberOf why = (let y = ltb-false n (numberOf why) t in let z = num .0 in omega arith) in rw (sym (one-refusal w why x)) (c .0)
+    go : (later : Bool) → ltb n (placeOf why) ≡ later → (suc n ≤ placeOf why → placeOf why < suc n + length l → Clear finds l → finds why ≡ Nowhere) → finds why ≡ Nowhere
+    go true t more = let y = ltb-true n (placeOf why) t in more (omega arith) (omega arith) (c .1)
+    go false t more = let x : placeOf w ≡ placeOf why = (let y = ltb-false n (placeOf why) t in let z = num .0 in omega arith) in rw (sym (one-place w why x)) (c .0)
 
 -- A file is accepted exactly when no line of the table gives a refusal.
 pub exactly-accepted : (f : List ℕ) (room : Room) → (refusalOf f room ≡ Accepted (headerIn f)) ↔ ((why : Refusal) (at : ℕ) → Given (headerIn f) f room why at → ⊥)
@@ -324,7 +338,7 @@ unfolding refusalOf
 exactly-accepted f room =
     let h : Header = headerIn f in
     let finds = found h f room in (
-      λ e why. clear-iff h f room why .0 (all-clear finds why 1 inOrder in-order (numbered why .1) (numbered why .2) (accepts finds h inOrder h e .1)),
+      λ e why. clear-iff h f room why .0 (all-clear finds why 0 inOrder in-order (omega arith) (placed why .1) (accepts finds h inOrder h e .1)),
       λ g. accepted finds h inOrder (clear-all finds inOrder (λ why. clear-iff h f room why .1 (g why))),
     )
 

@@ -1,17 +1,18 @@
 -- The fields of a row in file order: document 01, "The run file". Each has a number in that order, numbers go up with offsets, and
 -- at its offset stands what the row holds for it; so a place names a row and a field.
 -- Assumes nothing.
-use Prim.Native.Nat.{ℕ, zero, suc, _+_, _-_, _/_, _%_, _<_}
+use Prim.Native.Nat.{ℕ, zero, suc, _+_, _*_, _-_, _/_, _%_, _≤_, _<_}
 use mathlib.Core.Path.{_≡_, refl, sym, ap, _∙_}
 use mathlib.Core.Logic.{_↔_, _⊎_, inl, inr, ⊎-elim}
 use mathlib.Core.List.{List, [], _∷_}
-use native.Mathlib.Nat.{add-zero}
+use native.Mathlib.Nat.{add-zero, zero-add, mod-eq-of-lt, div-eq-of-lt, add-mul-mod-self-right, add-mul-div-right}
 use native.Mathlib.Omega.{arith}
 use lib.ListN.{getD, length}
 use Rattle.runfile.specs.declared.Row.{Row}
 use Rattle.runfile.specs.declared.Field.{Field}
 use Rattle.runfile.specs.declared.Field.the-variants.{Process, Kind, Word, ZeroByte, Old, New}
-use Rattle.runfile.specs.Layout.{rowSize, rowPlace, byteAt, u16At, rowAt, zeroByteAt}
+use Rattle.runfile.specs.Format.{RowSize, row-least, newPlace, new-place, new-after, offsetOf}
+use Rattle.runfile.specs.Layout.{rowPlace, byteAt, numberAt, rowAt, zeroByteAt}
 
 -- "A row: process, kind, word, a zero byte, then old and new (2 bytes each)."
 abbrev pub fields : List Field
@@ -20,16 +21,7 @@ fields = Process ∷ Kind ∷ Word ∷ ZeroByte ∷ Old ∷ New ∷ []
 abbrev pub fieldAt : ℕ → Field
 fieldAt i = getD fields i Process
 
--- where a field's first byte stands in its row
-abbrev pub offsetOf : Field → ℕ
-offsetOf Process = 0
-offsetOf Kind = 1
-offsetOf Word = 2
-offsetOf ZeroByte = 3
-offsetOf Old = 4
-offsetOf New = 6
-
--- so that what stands there is the row's field
+-- what stands at a field's offset is the row's field
 abbrev held : Row → ℕ → Field → ℕ
 held row zeroByte Process = row .process
 held row zeroByte Kind = row .kind
@@ -38,22 +30,22 @@ held row zeroByte ZeroByte = zeroByte
 held row zeroByte Old = row .old
 held row zeroByte New = row .new
 
-abbrev read : List ℕ → ℕ → Field → ℕ
-read f at Process = byteAt f at
-read f at Kind = byteAt f at
-read f at Word = byteAt f at
-read f at ZeroByte = byteAt f at
-read f at Old = u16At f at
-read f at New = u16At f at
+abbrev read : ℕ → List ℕ → ℕ → Field → ℕ
+read stride f at Process = byteAt f at
+read stride f at Kind = byteAt f at
+read stride f at Word = byteAt f at
+read stride f at ZeroByte = byteAt f at
+read stride f at Old = numberAt stride f at
+read stride f at New = numberAt stride f at
 
-pub stands : (f : List ℕ) (at : ℕ) (x : Field) → read f (at + offsetOf x) x ≡ held (rowAt f at) (zeroByteAt f at) x
+pub stands : (stride : ℕ) (f : List ℕ) (at : ℕ) (x : Field) → read stride f (at + offsetOf stride x) x ≡ held (rowAt stride f at) (zeroByteAt f at) x
 unfolding rowAt
-stands f at Process = rw (add-zero at)
-stands f at Kind = refl
-stands f at Word = refl
-stands f at ZeroByte = refl
-stands f at Old = refl
-stands f at New = refl
+stands stride f at Process = rw (add-zero at)
+stands stride f at Kind = refl
+stands stride f at Word = refl
+stands stride f at ZeroByte = refl
+stands stride f at Old = refl
+stands stride f at New = refl
 
 -- a field's number in file order
 abbrev pub orderOf : Field → ℕ
@@ -82,34 +74,49 @@ order-at (suc (suc (suc (suc zero)))) h = refl
 order-at (suc (suc (suc (suc (suc zero))))) h = refl
 order-at (suc (suc (suc (suc (suc (suc i)))))) h = absurd (omega arith)
 
--- only the last field's offset is not its number, so numbers and offsets go up together
-slot : (x : Field) → ((offsetOf x ≡ orderOf x) × (orderOf x < 5)) ⊎ ((offsetOf x ≡ 6) × (orderOf x ≡ 5))
-slot Process = inl (refl, omega arith)
-slot Kind = inl (refl, omega arith)
-slot Word = inl (refl, omega arith)
-slot ZeroByte = inl (refl, omega arith)
-slot Old = inl (refl, omega arith)
-slot New = inr (refl, refl)
+-- only the last field's offset is not its number, and it is larger, so numbers and offsets go up together
+slot : (stride : ℕ) (x : Field) → ((offsetOf stride x ≡ orderOf x) × (orderOf x < 5)) ⊎ ((offsetOf stride x ≡ newPlace stride) × (orderOf x ≡ 5))
+slot stride Process = inl (refl, omega arith)
+slot stride Kind = inl (refl, omega arith)
+slot stride Word = inl (refl, omega arith)
+slot stride ZeroByte = inl (refl, omega arith)
+slot stride Old = inl (refl, omega arith)
+slot stride New = inr (refl, refl)
 
-pub rising : (x y : Field) → (offsetOf x < offsetOf y) ↔ (orderOf x < orderOf y)
-rising x y = go (slot x) (slot y)
+pub rising : (stride : ℕ) (x y : Field) → (offsetOf stride x < offsetOf stride y) ↔ (orderOf x < orderOf y)
+rising stride x y = go (new-after stride) (slot stride x) (slot stride y)
   where
-    go : ((offsetOf x ≡ orderOf x) × (orderOf x < 5)) ⊎ ((offsetOf x ≡ 6) × (orderOf x ≡ 5)) → ((offsetOf y ≡ orderOf y) × (orderOf y < 5)) ⊎ ((offsetOf y ≡ 6) × (orderOf y ≡ 5))
-        → (offsetOf x < offsetOf y) ↔ (orderOf x < orderOf y)
-    go (inl p) (inl q) = (λ h. omega arith, λ h. omega arith)
-    go (inl p) (inr q) = (λ h. omega arith, λ h. omega arith)
-    go (inr p) (inl q) = (λ h. omega arith, λ h. omega arith)
-    go (inr p) (inr q) = (λ h. omega arith, λ h. omega arith)
+    go : 5 < newPlace stride → ((offsetOf stride x ≡ orderOf x) × (orderOf x < 5)) ⊎ ((offsetOf stride x ≡ newPlace stride) × (orderOf x ≡ 5))
+        → ((offsetOf stride y ≡ orderOf y) × (orderOf y < 5)) ⊎ ((offsetOf stride y ≡ newPlace stride) × (orderOf y ≡ 5))
+        → (offsetOf stride x < offsetOf stride y) ↔ (orderOf x < orderOf y)
+    go n (inl p) (inl q) = (λ h. omega arith, λ h. omega arith)
+    go n (inl p) (inr q) = (λ h. omega arith, λ h. omega arith)
+    go n (inr p) (inl q) = (λ h. omega arith, λ h. omega arith)
+    go n (inr p) (inr q) = (λ h. omega arith, λ h. omega arith)
+
+-- a field begins within its row
+pub offset-within : (stride : ℕ) → RowSize stride → (x : Field) → offsetOf stride x < stride
+offset-within stride s x = let n = new-place stride s in let l = row-least stride s in ⊎-elim (λ p. omega arith) (λ p. omega arith) (slot stride x)
 
 -- a place gives the row, by division by a row's size, and the offset of the field, by the remainder; and an offset names one field
-pub place-row : (start k : ℕ) (x : Field) → (rowPlace start k + offsetOf x - start) / rowSize ≡ k
-place-row start k x = ⊎-elim (λ p. omega arith) (λ p. omega arith) (slot x)
+past : (stride start k o : ℕ) → rowPlace stride start k + o - start ≡ o + k * stride
+past stride start k o = omega arith
 
-pub place-offset : (start k : ℕ) (x : Field) → (rowPlace start k + offsetOf x - start) % rowSize ≡ offsetOf x
-place-offset start k x = ⊎-elim (λ p. omega arith) (λ p. omega arith) (slot x)
+pub place-row : (stride start k : ℕ) → RowSize stride → (x : Field) → (rowPlace stride start k + offsetOf stride x - start) / stride ≡ k
+place-row stride start k s x =
+    let l = row-least stride s in
+    rw (past stride start k (offsetOf stride x), add-mul-div-right (offsetOf stride x) k (positive l), div-eq-of-lt (offset-within stride s x)) (zero-add k)
+  where
+    positive : 8 ≤ stride → 0 < stride
+    positive l = omega arith
 
-pub one-field : (x y : Field) → offsetOf x ≡ offsetOf y → x ≡ y
-one-field x y e = sym (ordered x .1) ∙ (ap fieldAt same ∙ ordered y .1)
+pub place-offset : (stride start k : ℕ) → RowSize stride → (x : Field) → (rowPlace stride start k + offsetOf stride x - start) % stride ≡ offsetOf stride x
+place-offset stride start k s x = rw (past stride start k (offsetOf stride x), add-mul-mod-self-right (offsetOf stride x) k stride, mod-eq-of-lt (offset-within stride s x))
+
+pub one-field : (stride : ℕ) (x y : Field) → offsetOf stride x ≡ offsetOf stride y → x ≡ y
+one-field stride x y e = sym (ordered x .1) ∙ (ap fieldAt same ∙ ordered y .1)
   where
     same : orderOf x ≡ orderOf y
-    same = ⊎-elim (λ p. ⊎-elim (λ q. omega arith) (λ q. omega arith) (slot y)) (λ p. ⊎-elim (λ q. omega arith) (λ q. omega arith) (slot y)) (slot x)
+    same =
+        let n = new-after stride in
+        ⊎-elim (λ p. ⊎-elim (λ q. omega arith) (λ q. omega arith) (slot stride y)) (λ p. ⊎-elim (λ q. omega arith) (λ q. omega arith) (slot stride y)) (slot stride x)

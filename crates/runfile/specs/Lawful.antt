@@ -15,10 +15,11 @@ use Rattle.runfile.specs.declared.Field.the-variants as field
 use Rattle.runfile.specs.declared.Room.{Room}
 use Rattle.runfile.specs.declared.Found.the-variants.{Nowhere}
 use Rattle.runfile.specs.declared.Checked.the-variants.{Accepted}
-use Rattle.runfile.specs.Layout.{headSize, longestFile, marked, headerIn, rowsStart, rowPlace, scheduleStart, scheduleIn, lengthGiven}
-use Rattle.runfile.specs.Fields.{fields, fieldAt, offsetOf, orderOf, ordered}
+use Rattle.runfile.specs.Format.{leastHead, offsetOf, longestFile, longest-holds, longestOfAll, longest-most}
+use Rattle.runfile.specs.Layout.{marked, headerIn, rowsStart, strideOf, rowPlace, scheduleStart, scheduleIn, lengthGiven}
+use Rattle.runfile.specs.Fields.{fields, fieldAt, orderOf, ordered}
 use Rattle.runfile.specs.Actions.{crashAll, none, actionOf}
-use Rattle.runfile.specs.Refusals.{outOfRange, badField, badIn, sameFields, badAction, badByte, badFieldIn, firstBadField, firstRow, firstLaterRow, firstByte, below, same, found, headChecks, bodyChecks, fileChecks, roomChecks, inOrder, refusalOf}
+use Rattle.runfile.specs.Refusals.{outOfRange, badField, badIn, sameFields, badAction, badByte, offendsAt, badFieldIn, firstBadField, firstRow, firstLaterRow, firstByte, below, same, found, headChecks, bodyChecks, fileChecks, roomChecks, inOrder, refusalOf}
 use Rattle.runfile.specs.Table.{Marked, rowOf, zeroByteOf, byteOf}
 use Rattle.runfile.specs.Order.{Clear, clear-parts, accepts, accepted, passes, whole-clear}
 use Rattle.runfile.specs.Searches.{none-found, none-offends}
@@ -52,7 +53,7 @@ pub data LawfulByte (processes byte : ℕ) : Type 0 where
 -- a file that is not refused, with buffers of these lengths
 pub record Lawful (h : Header) (f : List ℕ) (room : Room) : Type 0 where
   pub header : h ≡ headerIn f
-  pub long : headSize ≤ length f
+  pub long : leastHead ≤ length f
   pub head : LawfulHead h f
   pub rows : (k : ℕ) → k < h .rows → LawfulRow h (rowOf h f k) (zeroByteOf h f k)
   pub ordered : (k : ℕ) → suc k < h .rows → rowOf h f k .process ≤ rowOf h f (suc k) .process
@@ -107,8 +108,11 @@ lawful-head h f room c =
     }
 
 -- "The longest file has 5,195 bytes."
-pub longest : (h : Header) (f : List ℕ) → LawfulHead h f → length f ≤ longestFile
-longest h f l = let a = l .words in let b = l .rows in let c = l .steps in let e = l .exact in omega arith
+pub longest : (h : Header) (f : List ℕ) → LawfulHead h f → length f ≤ longestFile (h .version)
+longest h f l = let e = l .exact in let m = longest-holds (h .version) (h .words) (h .rows) (h .steps) (l .words) (l .rows) (l .steps) in omega arith
+
+pub longest-any : (h : Header) (f : List ℕ) → LawfulHead h f → length f ≤ longestOfAll
+longest-any h f l = let a = longest h f l in let b = longest-most (h .version) in omega arith
 
 pub lawful-row : (h : Header) (row : Row) (zeroByte : ℕ) → ((x : Field) → badField h row zeroByte x ≡ false) → LawfulRow h row zeroByte
 unfolding badField
@@ -151,10 +155,10 @@ lawful-not-bad processes byte (of-one high low) = go (byte / 16) high
 lawful-not-bad processes byte (of-all high low) = rw (high, low) refl
 
 -- of a row: no field is faulty
-pub no-bad-field : (h : Header) (f : List ℕ) (start k : ℕ) → badFieldIn h f start k ≡ Nowhere → (x : Field) → badIn h f start k x ≡ false
-no-bad-field h f start k e x =
+pub no-bad-field : (h : Header) (s : ℕ) (f : List ℕ) (start k : ℕ) → badFieldIn h s f start k ≡ Nowhere → (x : Field) → badIn h s f start k x ≡ false
+no-bad-field h s f start k e x =
     let o = ordered x in
-    subst (λ y. badIn h f start k y ≡ false) (o .1) (none-offends (λ i. rowPlace start k + offsetOf (fieldAt i)) (λ i. badIn h f start k (fieldAt i)) 0 (length fields) e (orderOf x) (omega arith) (let b = o .0 in omega arith))
+    subst (λ y. badIn h s f start k y ≡ false) (o .1) (none-offends (λ i. rowPlace s start k + offsetOf s (fieldAt i)) (λ i. badIn h s f start k (fieldAt i)) 0 (length fields) e (orderOf x) (omega arith) (let b = o .0 in omega arith))
 
 pub lawful : (f : List ℕ) (room : Room) (h : Header) → refusalOf f room ≡ Accepted h → Lawful h f room
 unfolding refusalOf firstBadField firstRow firstLaterRow firstByte sameFields
@@ -168,15 +172,16 @@ lawful f room h e =
     let head = lawful-head h f room (b .0) in
     let body = b .1 in
     let start : ℕ = rowsStart h in
+    let s : ℕ = strideOf h in
     let steps : length (scheduleIn h f) ≡ h .steps = simp length-drop (let x = head .exact in omega arith) in
     record {
       header = sym (a .0);
-      long = ltb-false (length f) headSize (whole-clear (ltb (length f) headSize) (d .0 .0));
+      long = ltb-false (length f) leastHead (whole-clear (ltb (length f) leastHead) (d .0 .0));
       head = head;
-      rows = λ k l. lawful-row h (rowOf h f k) (zeroByteOf h f k) (no-bad-field h f start k (none-found (badFieldIn h f start) 0 (h .rows) (body .0) k (omega arith) (omega arith)));
-      ordered = λ k l. ltb-false (rowOf h f (suc k) .process) (rowOf h f k .process) (let back : suc k - 1 ≡ k = omega arith in rw back at (none-offends (rowPlace start) (below f start) 1 (h .rows - 1) (body .1 .0) (suc k) (omega arith) (omega arith)));
-      differ = λ k l q. eqb-false (rowOf h f k .old) (rowOf h f k .new) (not-both (eqb (rowOf h f k .kind) 1) (eqb (rowOf h f k .old) (rowOf h f k .new)) (none-offends (rowPlace start) (same f start) 0 (h .rows) (body .1 .1 .0) k (omega arith) (omega arith)) (eq-eqb (rowOf h f k .kind) 1 q));
-      actions = λ i l. lawful-byte (h .processes) (byteOf h f i) (none-offends (λ j. scheduleStart h + j) (λ j. badByte (h .processes) (byteOf h f j)) 0 (length (scheduleIn h f)) (body .1 .1 .1 .0) i (omega arith) (omega arith));
+      rows = λ k l. lawful-row h (rowOf h f k) (zeroByteOf h f k) (no-bad-field h s f start k (none-found (badFieldIn h s f start) 0 (h .rows) (body .0) k (omega arith) (omega arith)));
+      ordered = λ k l. ltb-false (rowOf h f (suc k) .process) (rowOf h f k .process) (let back : suc k - 1 ≡ k = omega arith in rw back at (none-offends (rowPlace s start) (below s f start) 1 (h .rows - 1) (body .1 .0) (suc k) (omega arith) (omega arith)));
+      differ = λ k l q. eqb-false (rowOf h f k .old) (rowOf h f k .new) (not-both (eqb (rowOf h f k .kind) 1) (eqb (rowOf h f k .old) (rowOf h f k .new)) (none-offends (rowPlace s start) (same s f start) 0 (h .rows) (body .1 .1 .0) k (omega arith) (omega arith)) (eq-eqb (rowOf h f k .kind) 1 q));
+      actions = λ i l. lawful-byte (h .processes) (byteOf h f i) (none-offends (λ j. scheduleStart h + j) (offendsAt (λ before. badByte (h .processes)) (scheduleIn h f)) 0 (length (scheduleIn h f)) (body .1 .1 .1 .0) i (omega arith) (omega arith));
       schedule = steps;
       words-room = ltb-false (room .words) (h .words) (whole-clear (ltb (room .words) (h .words)) (d .1 .0));
       log-room = ltb-false (room .log) (5 * h .steps) (whole-clear (ltb (room .log) (5 * h .steps)) (d .1 .1 .0));

@@ -1,26 +1,14 @@
 -- Where the parts of a run file stand, and their fields: document 01, "The run file".
 -- A file is the list of its bytes. Everything here is total: a byte past the end counts as 0.
 -- Assumes nothing.
-use Prim.Native.Nat.{ℕ, _+_, _*_}
+use Prim.Native.Nat.{ℕ, _+_, _*_, _≤_}
 use mathlib.Core.Bool.{Bool, _&&_}
 use mathlib.Core.List.{List}
 use lib.Dec.{eqb}
-use lib.ListN.{getD, drop}
+use lib.ListN.{getD, length, drop}
 use Rattle.runfile.specs.declared.Header.{Header}
 use Rattle.runfile.specs.declared.Row.{Row}
-
--- the bytes of the header, of a word and of a row; and "The longest file has 5,195 bytes."
-abbrev pub headSize : ℕ
-headSize = 11
-
-abbrev pub wordSize : ℕ
-wordSize = 4
-
-abbrev pub rowSize : ℕ
-rowSize = 8
-
-abbrev pub longestFile : ℕ
-longestFile = 5195
+use Rattle.runfile.specs.Format.{headSize, wordSize, rowSize, RowSize, newPlace}
 
 abbrev pub byteAt : List ℕ → ℕ → ℕ
 byteAt f at = getD f at 0
@@ -40,33 +28,47 @@ marked f = eqb (byteAt f 0) 83 && (eqb (byteAt f 1) 87 && eqb (byteAt f 2) 82)
 unfoldable pub headerIn : List ℕ → Header
 headerIn f = record { version = u16At f 3; processes = byteAt f 5; words = byteAt f 6; rows = u16At f 7; steps = u16At f 9 }
 
--- "Then W words of 4 bytes": the start word i
-abbrev pub wordPlace : ℕ → ℕ
-wordPlace i = headSize + i * wordSize
+-- "Then W words of 4 bytes": the start word i, in a file of this version
+abbrev pub wordPlace : ℕ → ℕ → ℕ
+wordPlace version i = headSize version + i * wordSize version
 
-abbrev pub wordIn : List ℕ → ℕ → ℕ
-wordIn f i = u32At f (wordPlace i)
+abbrev pub wordIn : ℕ → List ℕ → ℕ → ℕ
+wordIn version f i = u32At f (wordPlace version i)
 
--- "the operation rows of 8 bytes": where they begin, and where row k of those that begin at `start` stands
+-- "the operation rows of 8 bytes": where they begin, from one to the next, and where row k of those that begin at `start` stands
 abbrev pub rowsStart : Header → ℕ
-rowsStart h = wordPlace (h .words)
+rowsStart h = wordPlace (h .version) (h .words)
 
-abbrev pub rowPlace : ℕ → ℕ → ℕ
-rowPlace start k = start + k * rowSize
+abbrev pub strideOf : Header → ℕ
+strideOf h = rowSize (h .version)
+
+abbrev pub rowPlace : ℕ → ℕ → ℕ → ℕ
+rowPlace stride start k = start + k * stride
 
 -- "A row: process, kind, word, a zero byte, then old and new (2 bytes each)."
-unfoldable pub rowAt : List ℕ → ℕ → Row
-rowAt f at = record { process = byteAt f at; kind = byteAt f (at + 1); word = byteAt f (at + 2); old = u16At f (at + 4); new = u16At f (at + 6) }
+unfoldable pub numberAt : ℕ → List ℕ → ℕ → ℕ
+numberAt stride f at = u16At f at
+
+unfoldable pub rowAt : ℕ → List ℕ → ℕ → Row
+rowAt stride f at = record { process = byteAt f at; kind = byteAt f (at + 1); word = byteAt f (at + 2); old = numberAt stride f (at + 4); new = numberAt stride f (at + newPlace stride) }
 
 abbrev pub zeroByteAt : List ℕ → ℕ → ℕ
 zeroByteAt f at = byteAt f (at + 3)
 
-abbrev pub rowIn : List ℕ → ℕ → ℕ → Row
-rowIn f start k = rowAt f (rowPlace start k)
+abbrev pub rowIn : ℕ → List ℕ → ℕ → ℕ → Row
+rowIn stride f start k = rowAt stride f (rowPlace stride start k)
+
+-- row k of a table of rows, which is all that other layers ask for; the table has it
+abbrev pub rowOfTable : ℕ → List ℕ → ℕ → Row
+rowOfTable stride table k = rowAt stride table (k * stride)
+
+pub record HasRow (stride : ℕ) (table : List ℕ) (k : ℕ) : Type 0 where
+  pub size : RowSize stride
+  pub whole : k * stride + stride ≤ length table
 
 -- "the schedule bytes, and nothing more. The schedule is the part of the file that begins after the last row."
 abbrev pub scheduleStart : Header → ℕ
-scheduleStart h = rowPlace (rowsStart h) (h .rows)
+scheduleStart h = rowPlace (strideOf h) (rowsStart h) (h .rows)
 
 abbrev pub scheduleIn : Header → List ℕ → List ℕ
 scheduleIn h f = drop (scheduleStart h) f

@@ -1,7 +1,9 @@
+pub mod Format
 pub mod Layout
 pub mod Fields
 pub mod Operations
 pub mod OperationLaws
+pub mod RowLaws
 pub mod Lines
 pub mod Actions
 pub mod Refusals

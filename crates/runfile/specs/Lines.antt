@@ -10,15 +10,21 @@ use lib.ListN.{getD, length}
 use lib.Seq.{ext-getD}
 use borrow.Author.Tests.{ltb-true, ltb-false, eqb-true, eqb-false, le-ltb}
 use Rattle.runfile.specs.declared.Row.{Row}
-use Rattle.runfile.specs.Layout.{byteAt}
+use Rattle.runfile.specs.Format.{RowSize, within}
+use Rattle.runfile.specs.Layout.{rowOfTable, HasRow}
 use Rattle.runfile.specs.Operations.{rowsFrom, first, count}
 use Rattle.runfile.specs.OperationLaws.{length-rowsFrom}
 
--- a table of n rows, each of a process below sixteen
-pub record Lined (table : List ℕ) (n : ℕ) : Type 0 where
-  pub whole : n * 8 ≤ length table
+-- a table of n rows of this size, each of a process below sixteen
+pub record Lined (stride : ℕ) (table : List ℕ) (n : ℕ) : Type 0 where
+  pub size : RowSize stride
+  pub whole : n * stride ≤ length table
   pub few : n ≤ 512
-  pub processes : (k : ℕ) → k < n → byteAt table (k * 8) < 16
+  pub processes : (k : ℕ) → k < n → rowOfTable stride table k .process < 16
+
+-- so it has each of them
+pub has-row : (stride : ℕ) (table : List ℕ) (n k : ℕ) → RowSize stride → n * stride ≤ length table → k < n → HasRow stride table k
+has-row stride table n k s w h = record { size = s; whole = let r = within stride 0 k n h in omega arith }
 
 -- a table of sixteen numbers, of which number p is `value p`
 pub record Sixteen (value : ℕ → ℕ) (table : List ℕ) : Type 0 where
@@ -90,10 +96,10 @@ pub first-at : (rows : List Row) (counts firsts : List ℕ) → Counted rows cou
 first-at rows counts firsts c s p h = s .each p h ∙ sums-are rows counts c p (omega arith)
 
 -- all the rows of a table, which are few
-pub sum-fits : (table : List ℕ) (n : ℕ) (counts : List ℕ) → n ≤ 512 → Counted (rowsFrom table 0 n) counts → sumTo counts 16 < 65536
-sum-fits table n counts few c =
-    let rows = rowsFrom table 0 n in
+pub sum-fits : (stride : ℕ) (table : List ℕ) (n : ℕ) (counts : List ℕ) → n ≤ 512 → Counted (rowsFrom stride table 0 n) counts → sumTo counts 16 < 65536
+sum-fits stride table n counts few c =
+    let rows = rowsFrom stride table 0 n in
     let e = sums-are rows counts c 16 (omega arith) in
     let f = first-fits rows 16 in
-    let g = length-rowsFrom table 0 n in
+    let g = length-rowsFrom stride table 0 n in
     omega arith

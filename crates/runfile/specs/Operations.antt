@@ -7,23 +7,23 @@ use lib.Dec.{eqb, ltb}
 use lib.ListN.{getD}
 use Rattle.runfile.specs.declared.Header.{Header}
 use Rattle.runfile.specs.declared.Row.{Row}
-use Rattle.runfile.specs.Layout.{rowSize, rowsStart, rowAt, wordIn}
+use Rattle.runfile.specs.Layout.{rowsStart, strideOf, rowAt, wordIn}
 
--- the first n start words
-abbrev pub wordsFrom : List ℕ → ℕ → List ℕ
-wordsFrom f zero = []
-wordsFrom f (suc n) = wordsFrom f n ++ (wordIn f n ∷ [])
+-- the first n start words of a file of this version
+abbrev pub wordsFrom : ℕ → List ℕ → ℕ → List ℕ
+wordsFrom version f zero = []
+wordsFrom version f (suc n) = wordsFrom version f n ++ (wordIn version f n ∷ [])
 
 unfoldable pub wordsOf : Header → List ℕ → List ℕ
-wordsOf h f = wordsFrom f (h .words)
+wordsOf h f = wordsFrom (h .version) f (h .words)
 
--- the n rows that stand from a place on
-unfoldable pub rowsFrom : List ℕ → ℕ → ℕ → List Row
-rowsFrom f start zero = []
-rowsFrom f start (suc n) = rowAt f start ∷ rowsFrom f (start + rowSize) n
+-- the n rows that stand from a place on, so many bytes from one to the next
+unfoldable pub rowsFrom : ℕ → List ℕ → ℕ → ℕ → List Row
+rowsFrom stride f start zero = []
+rowsFrom stride f start (suc n) = rowAt stride f start ∷ rowsFrom stride f (start + stride) n
 
 unfoldable pub tableOf : Header → List ℕ → List Row
-tableOf h f = rowsFrom f (rowsStart h) (h .rows)
+tableOf h f = rowsFrom (strideOf h) f (rowsStart h) (h .rows)
 
 -- "Row numbers count from 0 over the whole file." Row k, or a row of zeros where there is none
 abbrev pub blank : Row

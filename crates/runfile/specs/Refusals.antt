@@ -5,7 +5,7 @@ use Prim.Native.Nat.{ℕ, zero, suc, _+_, _*_, _-_}
 use mathlib.Core.Bool.{Bool, true, false, not, _&&_, _||_}
 use mathlib.Core.List.{List, [], _∷_, _++_}
 use lib.Dec.{leb, ltb, eqb}
-use lib.ListN.{getD, length}
+use lib.ListN.{getD, length, take}
 use Rattle.runfile.specs.declared.Header.{Header}
 use Rattle.runfile.specs.declared.Row.{Row}
 use Rattle.runfile.specs.declared.Field.{Field}
@@ -17,8 +17,9 @@ use Rattle.runfile.specs.declared.Found.{Found}
 use Rattle.runfile.specs.declared.Found.the-variants.{Nowhere, At}
 use Rattle.runfile.specs.declared.Checked.{Checked}
 use Rattle.runfile.specs.declared.Checked.the-variants.{Accepted, Refused}
-use Rattle.runfile.specs.Layout.{headSize, marked, headerIn, rowsStart, rowPlace, rowIn, zeroByteAt, scheduleStart, scheduleIn, lengthGiven}
-use Rattle.runfile.specs.Fields.{fields, fieldAt, offsetOf}
+use Rattle.runfile.specs.Format.{leastHead, offsetOf}
+use Rattle.runfile.specs.Layout.{marked, headerIn, rowsStart, strideOf, rowPlace, rowIn, zeroByteAt, scheduleStart, scheduleIn, lengthGiven}
+use Rattle.runfile.specs.Fields.{fields, fieldAt}
 use Rattle.runfile.specs.Actions.{Action, step, crash, wake, crashAll, none, action, named}
 
 -- the table's first column
@@ -43,31 +44,41 @@ numberOf refusal.AnswersRoom = 15
 abbrev pub outOfRange : ℕ → Bool
 outOfRange n = eqb n 0 || ltb 16 n
 
+-- "Kind 0 reads, and its old and new are 0; kind 1 compares and swaps": which kinds a version has, which must have old 0 and which new 0
+abbrev pub badKind : ℕ → ℕ → Bool
+badKind version kind = ltb 1 kind
+
+abbrev pub zeroOld : ℕ → Bool
+zeroOld kind = eqb kind 0
+
+abbrev pub zeroNew : ℕ → Bool
+zeroNew kind = eqb kind 0
+
 -- 9: "a row's process, kind or word out of range, its zero byte not 0, or a read whose old or new is not 0", field by field
-abbrev pub badRead : ℕ → ℕ → Bool
-badRead kind number = eqb kind 0 && not (eqb number 0)
+abbrev pub badNumber : Bool → ℕ → Bool
+badNumber must number = must && not (eqb number 0)
 
 unfoldable pub badField : Header → Row → ℕ → Field → Bool
 badField h row zeroByte field.Process = leb (h .processes) (row .process)
-badField h row zeroByte field.Kind = ltb 1 (row .kind)
+badField h row zeroByte field.Kind = badKind (h .version) (row .kind)
 badField h row zeroByte field.Word = leb (h .words) (row .word)
 badField h row zeroByte field.ZeroByte = not (eqb zeroByte 0)
-badField h row zeroByte field.Old = badRead (row .kind) (row .old)
-badField h row zeroByte field.New = badRead (row .kind) (row .new)
+badField h row zeroByte field.Old = badNumber (zeroOld (row .kind)) (row .old)
+badField h row zeroByte field.New = badNumber (zeroNew (row .kind)) (row .new)
 
-abbrev pub badIn : Header → List ℕ → ℕ → ℕ → Field → Bool
-badIn h f start k = badField h (rowIn f start k) (zeroByteAt f (rowPlace start k))
+abbrev pub badIn : Header → ℕ → List ℕ → ℕ → ℕ → Field → Bool
+badIn h stride f start k = badField h (rowIn stride f start k) (zeroByteAt f (rowPlace stride start k))
 
 -- 10: "a row's process is below that of the row before"
-abbrev pub below : List ℕ → ℕ → ℕ → Bool
-below f start k = ltb (rowIn f start k .process) (rowIn f start (k - 1) .process)
+abbrev pub below : ℕ → List ℕ → ℕ → ℕ → Bool
+below stride f start k = ltb (rowIn stride f start k .process) (rowIn stride f start (k - 1) .process)
 
 -- 11: "a compare row with old equal to new"
 unfoldable pub sameFields : Row → Bool
 sameFields row = eqb (row .kind) 1 && eqb (row .old) (row .new)
 
-abbrev pub same : List ℕ → ℕ → ℕ → Bool
-same f start k = sameFields (rowIn f start k)
+abbrev pub same : ℕ → List ℕ → ℕ → ℕ → Bool
+same stride f start k = sameFields (rowIn stride f start k)
 
 -- 12: "A byte is refused if its action is none, if its process is P or more for 0, 1 and 2, or if its low bits are not 0 for 15."
 abbrev pub badAction : ℕ → ℕ → Action → Bool
@@ -98,28 +109,32 @@ abbrev pub firstOffender : (ℕ → ℕ) → (ℕ → Bool) → ℕ → ℕ → 
 firstOffender place offends = firstFound (λ k. foundIf (offends k) (place k))
 
 -- "The first faulty field of the first faulty row ends the search; fields go in file order": in row k, and over the n rows from `start` on
-abbrev pub badFieldIn : Header → List ℕ → ℕ → ℕ → Found
-badFieldIn h f start k = firstOffender (λ i. rowPlace start k + offsetOf (fieldAt i)) (λ i. badIn h f start k (fieldAt i)) 0 (length fields)
+abbrev pub badFieldIn : Header → ℕ → List ℕ → ℕ → ℕ → Found
+badFieldIn h stride f start k = firstOffender (λ i. rowPlace stride start k + offsetOf stride (fieldAt i)) (λ i. badIn h stride f start k (fieldAt i)) 0 (length fields)
 
-unfoldable pub firstBadField : Header → List ℕ → ℕ → ℕ → Found
-firstBadField h f start n = firstFound (badFieldIn h f start) 0 n
+unfoldable pub firstBadField : Header → ℕ → List ℕ → ℕ → ℕ → Found
+firstBadField h stride f start n = firstFound (badFieldIn h stride f start) 0 n
 
--- over the n rows from `start` on, the row's first byte; over those that have a row before; over the schedule, that byte; of the file as a whole, 0
-unfoldable pub firstRow : ℕ → ℕ → (ℕ → Bool) → Found
-firstRow start n offends = firstOffender (rowPlace start) offends 0 n
+-- over the n rows from `start` on, the row's first byte; over those that have a row before; of the file as a whole, 0
+unfoldable pub firstRow : ℕ → ℕ → ℕ → (ℕ → Bool) → Found
+firstRow stride start n offends = firstOffender (rowPlace stride start) offends 0 n
 
-unfoldable pub firstLaterRow : ℕ → ℕ → (ℕ → Bool) → Found
-firstLaterRow start n offends = firstOffender (rowPlace start) offends 1 (n - 1)
+unfoldable pub firstLaterRow : ℕ → ℕ → ℕ → (ℕ → Bool) → Found
+firstLaterRow stride start n offends = firstOffender (rowPlace stride start) offends 1 (n - 1)
 
-unfoldable pub firstByte : ℕ → ℕ → List ℕ → Found
-firstByte start processes bytes = firstOffender (λ i. start + i) (λ i. badByte processes (getD bytes i 0)) 0 (length bytes)
+-- over the schedule, that byte: the test sees the bytes before it, and the byte
+abbrev pub offendsAt : (List ℕ → ℕ → Bool) → List ℕ → ℕ → Bool
+offendsAt offends bytes i = offends (take i bytes) (getD bytes i 0)
+
+unfoldable pub firstByte : ℕ → (List ℕ → ℕ → Bool) → List ℕ → Found
+firstByte start offends bytes = firstOffender (λ i. start + i) (offendsAt offends bytes) 0 (length bytes)
 
 abbrev pub whole : Bool → Found
 whole t = foundIf t 0
 
 -- the table: what each check finds, over the whole file
 abbrev pub found : Header → List ℕ → Room → Refusal → Found
-found h f room refusal.Short = whole (ltb (length f) headSize)
+found h f room refusal.Short = whole (ltb (length f) leastHead)
 found h f room refusal.Mark = whole (not (marked f))
 found h f room refusal.Version = whole (not (eqb (h .version) 1))
 found h f room refusal.Processes = whole (outOfRange (h .processes))
@@ -127,10 +142,10 @@ found h f room refusal.Words = whole (outOfRange (h .words))
 found h f room refusal.Rows = whole (ltb 512 (h .rows))
 found h f room refusal.Steps = whole (ltb 1024 (h .steps))
 found h f room refusal.Length = whole (not (eqb (length f) (lengthGiven h)))
-found h f room refusal.Row = firstBadField h f (rowsStart h) (h .rows)
-found h f room refusal.Order = firstLaterRow (rowsStart h) (h .rows) (below f (rowsStart h))
-found h f room refusal.Same = firstRow (rowsStart h) (h .rows) (same f (rowsStart h))
-found h f room refusal.Action = firstByte (scheduleStart h) (h .processes) (scheduleIn h f)
+found h f room refusal.Row = firstBadField h (strideOf h) f (rowsStart h) (h .rows)
+found h f room refusal.Order = firstLaterRow (strideOf h) (rowsStart h) (h .rows) (below (strideOf h) f (rowsStart h))
+found h f room refusal.Same = firstRow (strideOf h) (rowsStart h) (h .rows) (same (strideOf h) f (rowsStart h))
+found h f room refusal.Action = firstByte (scheduleStart h) (λ before. badByte (h .processes)) (scheduleIn h f)
 found h f room refusal.WordsRoom = whole (ltb (room .words) (h .words))
 found h f room refusal.LogRoom = whole (ltb (room .log) (5 * h .steps))
 found h f room refusal.AnswersRoom = whole (ltb (room .answers) (5 * h .steps))
@@ -161,6 +176,24 @@ fileChecks = refusal.Short ∷ (headChecks ++ bodyChecks)
 
 abbrev pub inOrder : List Refusal
 inOrder = fileChecks ++ roomChecks
+
+-- a check's place in that list, from 0
+abbrev pub placeOf : Refusal → ℕ
+placeOf refusal.Short = 0
+placeOf refusal.Mark = 1
+placeOf refusal.Version = 2
+placeOf refusal.Processes = 3
+placeOf refusal.Words = 4
+placeOf refusal.Rows = 5
+placeOf refusal.Steps = 6
+placeOf refusal.Length = 7
+placeOf refusal.Row = 8
+placeOf refusal.Order = 9
+placeOf refusal.Same = 10
+placeOf refusal.Action = 11
+placeOf refusal.WordsRoom = 12
+placeOf refusal.LogRoom = 13
+placeOf refusal.AnswersRoom = 14
 
 -- the whole answer
 unfoldable pub refusalOf : List ℕ → Room → Checked

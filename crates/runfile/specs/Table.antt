@@ -5,7 +5,7 @@ use Prim.Native.Nat.{ℕ, _+_, _*_, _-_, _/_, _%_, _≤_, _<_}
 use mathlib.Core.Path.{_≡_}
 use mathlib.Core.Logic.{_⊎_}
 use mathlib.Core.List.{List}
-use lib.ListN.{getD, length}
+use lib.ListN.{getD, length, take}
 use Rattle.runfile.specs.declared.Header.{Header}
 use Rattle.runfile.specs.declared.Row.{Row}
 use Rattle.runfile.specs.declared.Field.{Field}
@@ -13,25 +13,32 @@ use Rattle.runfile.specs.declared.Field.the-variants as field
 use Rattle.runfile.specs.declared.Room.{Room}
 use Rattle.runfile.specs.declared.Refusal.{Refusal}
 use Rattle.runfile.specs.declared.Refusal.the-variants as refusal
-use Rattle.runfile.specs.Layout.{byteAt, rowsStart, rowPlace, rowIn, zeroByteAt, scheduleStart, scheduleIn, lengthGiven}
-use Rattle.runfile.specs.Fields.{offsetOf}
-use Rattle.runfile.specs.Refusals.{numberOf}
+use Rattle.runfile.specs.Format.{offsetOf}
+use Rattle.runfile.specs.Layout.{byteAt, rowsStart, strideOf, rowPlace, rowIn, zeroByteAt, scheduleStart, scheduleIn, lengthGiven}
+use Rattle.runfile.specs.Refusals.{placeOf}
 
 -- 2: the mark is `SWR`
 abbrev pub Marked : List ℕ → Type 0
 Marked f = (byteAt f 0 ≡ 83) × (byteAt f 1 ≡ 87) × (byteAt f 2 ≡ 82)
 
 -- 9: "a row's process, kind or word out of range, its zero byte not 0, or a read whose old or new is not 0", field by field
-abbrev pub BadRead : ℕ → ℕ → Type 0
-BadRead kind number = (kind ≡ 0) × (number ≡ 0 → ⊥)
+-- ("Kind 0 reads, and its old and new are 0; kind 1 compares and swaps": which kinds a version has, which must have old 0 and which new 0)
+abbrev pub BadKind : ℕ → ℕ → Type 0
+BadKind version kind = 1 < kind
+
+abbrev pub ZeroOld : ℕ → Type 0
+ZeroOld kind = kind ≡ 0
+
+abbrev pub ZeroNew : ℕ → Type 0
+ZeroNew kind = kind ≡ 0
 
 abbrev pub BadField : Header → Row → ℕ → Field → Type 0
 BadField h row zeroByte field.Process = h .processes ≤ row .process
-BadField h row zeroByte field.Kind = 1 < row .kind
+BadField h row zeroByte field.Kind = BadKind (h .version) (row .kind)
 BadField h row zeroByte field.Word = h .words ≤ row .word
 BadField h row zeroByte field.ZeroByte = zeroByte ≡ 0 → ⊥
-BadField h row zeroByte field.Old = BadRead (row .kind) (row .old)
-BadField h row zeroByte field.New = BadRead (row .kind) (row .new)
+BadField h row zeroByte field.Old = ZeroOld (row .kind) × (row .old ≡ 0 → ⊥)
+BadField h row zeroByte field.New = ZeroNew (row .kind) × (row .new ≡ 0 → ⊥)
 
 -- 12: "A byte is refused if its action is none, if its process is P or more for 0, 1 and 2, or if its low bits are not 0 for 15."
 pub data BadByte (processes byte : ℕ) : Type 0 where
@@ -48,25 +55,26 @@ pub record First (from n : ℕ) (place : ℕ → ℕ) (Bad : ℕ → Type 0) (at
   pub none-before : (j : ℕ) → from ≤ j → j < which → Bad j → ⊥
   pub here : at ≡ place which
 
--- the row's first byte; that byte
+-- the row's first byte
 abbrev pub FirstRow : Header → (ℕ → Type 0) → ℕ → Type 0
-FirstRow h Bad at = First 0 (h .rows) (rowPlace (rowsStart h)) Bad at
+FirstRow h Bad at = First 0 (h .rows) (rowPlace (strideOf h) (rowsStart h)) Bad at
 
 abbrev pub FirstLaterRow : Header → (ℕ → Type 0) → ℕ → Type 0
-FirstLaterRow h Bad at = First 1 (h .rows - 1) (rowPlace (rowsStart h)) Bad at
-
-abbrev pub FirstByte : Header → List ℕ → (ℕ → Type 0) → ℕ → Type 0
-FirstByte h f Bad at = First 0 (length (scheduleIn h f)) (λ i. scheduleStart h + i) Bad at
+FirstLaterRow h Bad at = First 1 (h .rows - 1) (rowPlace (strideOf h) (rowsStart h)) Bad at
 
 -- the fields of row k, and byte i of the schedule
 abbrev pub rowOf : Header → List ℕ → ℕ → Row
-rowOf h f k = rowIn f (rowsStart h) k
+rowOf h f k = rowIn (strideOf h) f (rowsStart h) k
 
 abbrev pub zeroByteOf : Header → List ℕ → ℕ → ℕ
-zeroByteOf h f k = zeroByteAt f (rowPlace (rowsStart h) k)
+zeroByteOf h f k = zeroByteAt f (rowPlace (strideOf h) (rowsStart h) k)
 
 abbrev pub byteOf : Header → List ℕ → ℕ → ℕ
 byteOf h f i = getD (scheduleIn h f) i 0
+
+-- of the schedule's bytes the first that is bad: said of a byte and of those before it
+abbrev pub FirstByte : Header → List ℕ → (List ℕ → ℕ → Type 0) → ℕ → Type 0
+FirstByte h f Bad at = First 0 (length (scheduleIn h f)) (λ i. scheduleStart h + i) (λ i. Bad (take i (scheduleIn h f)) (byteOf h f i)) at
 
 -- 9, and its place: "The first faulty field of the first faulty row ends the search; fields go in file order", that field's first byte
 abbrev pub BadIn : Header → List ℕ → ℕ → Field → Type 0
@@ -78,8 +86,8 @@ pub record FirstBadField (h : Header) (f : List ℕ) (at : ℕ) : Type 0 where
   pub field : Field
   pub bad : BadIn h f row field
   pub no-row-before : (j : ℕ) → j < row → (x : Field) → BadIn h f j x → ⊥
-  pub no-field-before : (x : Field) → offsetOf x < offsetOf field → BadIn h f row x → ⊥
-  pub here : at ≡ rowPlace (rowsStart h) row + offsetOf field
+  pub no-field-before : (x : Field) → offsetOf (strideOf h) x < offsetOf (strideOf h) field → BadIn h f row x → ⊥
+  pub here : at ≡ rowPlace (strideOf h) (rowsStart h) row + offsetOf (strideOf h) field
 
 abbrev pub Given : Header → List ℕ → Room → Refusal → ℕ → Type 0
 Given h f room refusal.Short at = (length f < 11) × (at ≡ 0)
@@ -93,11 +101,11 @@ Given h f room refusal.Length at = (length f ≡ lengthGiven h → ⊥) × (at �
 Given h f room refusal.Row at = FirstBadField h f at
 Given h f room refusal.Order at = FirstLaterRow h (λ k. rowOf h f k .process < rowOf h f (k - 1) .process) at
 Given h f room refusal.Same at = FirstRow h (λ k. (rowOf h f k .kind ≡ 1) × (rowOf h f k .old ≡ rowOf h f k .new)) at
-Given h f room refusal.Action at = FirstByte h f (λ i. BadByte (h .processes) (byteOf h f i)) at
+Given h f room refusal.Action at = FirstByte h f (λ before byte. BadByte (h .processes) byte) at
 Given h f room refusal.WordsRoom at = (room .words < h .words) × (at ≡ 0)
 Given h f room refusal.LogRoom at = (room .log < 5 * h .steps) × (at ≡ 0)
 Given h f room refusal.AnswersRoom at = (room .answers < 5 * h .steps) × (at ≡ 0)
 
--- "Checks go in this order."
+-- "Checks go in this order": by their places in the list of checks, not by their numbers
 abbrev pub Earlier : Refusal → Refusal → Type 0
-Earlier e why = numberOf e < numberOf why
+Earlier e why = placeOf e < placeOf why

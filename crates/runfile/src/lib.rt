@@ -2,6 +2,7 @@
 //
 // `check` is the one door: every byte string is accepted, with its header by value, or refused by one
 // number and one place. Nothing is asked of its caller. The meaning of every answer stands in specs/Refusals.
+mod format;
 mod lines;
 mod offends;
 mod read;
@@ -15,18 +16,23 @@ use offends::first_same;
 pub use offends::is_bad_byte;
 use read::has_mark;
 use read::header_of;
+pub use read::header_or_zeros;
 pub use read::index8;
 pub use read::index16;
 use read::length_given;
 pub use read::row_at;
 pub use read::rows_start;
 pub use read::schedule_start;
+pub use read::stride_of;
 pub use read::u32_at;
+pub use read::word_at;
+pub use read::word_of_row;
 ghost use mathlib.Core.Path.{_≡_};
 ghost use mathlib.Core.List.{List};
 ghost use Prim.Native.Nat.{ℕ, _≤_};
 ghost use lib.ListN.{length};
-ghost use Rattle.runfile.specs.Layout.{headSize, lengthGiven, longestFile};
+ghost use Rattle.runfile.specs.Format.{leastHead, longestOfAll};
+ghost use Rattle.runfile.specs.Layout.{lengthGiven};
 ghost use Rattle.runfile.specs.Refusals.{outOfRange, firstOf, found, noRoom, countChecks, headChecks, bodyChecks, roomChecks, fileRefusal};
 ghost use Rattle.runfile.specs.Promises.{Decides, Numbers};
 
@@ -153,7 +159,7 @@ fn check_counts(header: Header) -> Checked
 
 // Refusals 2 to 8: the mark, the header, and the length that it gives.
 fn check_head(file: &[u8], header: Header) -> Checked
-    requires { ⌜ headSize ≤ length (now file) ⌝ }
+    requires { ⌜ leastHead ≤ length (now file) ⌝ }
     ensures { λ r. ⌜ r ≡ firstOf (found header (now (file .entry)) noRoom) headChecks header ⌝ }
 {
     if !has_mark(file) {
@@ -171,18 +177,19 @@ fn check_head(file: &[u8], header: Header) -> Checked
 
 // Refusals 9 to 12, each over the whole file before the next begins.
 fn check_body(file: &[u8], header: Header) -> Checked
-    requires { ⌜ (length (now file) ≡ lengthGiven header) × (length (now file) ≤ longestFile) ⌝ }
+    requires { ⌜ (length (now file) ≡ lengthGiven header) × (length (now file) ≤ longestOfAll) ⌝ }
     ensures { λ r. ⌜ r ≡ firstOf (found header (now (file .entry)) noRoom) bodyChecks header ⌝ }
 {
     let rows_at = rows_start(header);
+    let stride = stride_of(header);
     let rows = index16(header.rows);
-    if let Found::At(place) = first_bad_field(file, rows_at, rows, header) {
+    if let Found::At(place) = first_bad_field(file, rows_at, stride, rows, header) {
         return Checked::Refused(Refusal::Row, place);
     }
-    if let Found::At(place) = first_below(file, rows_at, rows) {
+    if let Found::At(place) = first_below(file, rows_at, stride, rows) {
         return Checked::Refused(Refusal::Order, place);
     }
-    if let Found::At(place) = first_same(file, rows_at, rows) {
+    if let Found::At(place) = first_same(file, rows_at, stride, rows) {
         return Checked::Refused(Refusal::Same, place);
     }
     let start = schedule_start(header);

@@ -1,18 +1,19 @@
 // How the rows fall to the processes: two tables, made once per run, so that a start scans nothing.
 use super::read::index8;
+use super::read::process_of_row;
 ghost use Prim.Native.Nat.{_<_};
 ghost use Rattle.runfile.specs.Operations.{rowsFrom};
 ghost use Rattle.runfile.specs.Lines.{Lined, Counted, Summed, sumTo};
 
 // How many rows each process has.
-pub fn counts_of(table: &[u8], rows: usize) -> [u16; 16]
-    requires { ⌜ Lined (now table) rows ⌝ }
-    ensures { λ r. ⌜ Counted (rowsFrom (now (table .entry)) 0 rows) r ⌝ }
+pub fn counts_of(table: &[u8], stride: usize, rows: usize) -> [u16; 16]
+    requires { ⌜ Lined stride (now table) rows ⌝ }
+    ensures { λ r. ⌜ Counted (rowsFrom stride (now (table .entry)) 0 rows) r ⌝ }
 {
     let mut counts = [0u16; 16];
     let mut k = 0;
     while k < rows {
-        let p = index8(table[k * 8]);
+        let p = index8(process_of_row(table, stride, k));
         counts[p] = counts[p] + 1;
         k += 1;
     }

@@ -2,13 +2,15 @@
 use super::Field;
 use super::Found;
 use super::Header;
-use super::read::u16_at;
+use super::format::new_place;
+use super::format::offset_of;
+use super::read::number_at;
 ghost use mathlib.Core.Path.{_≡_};
 ghost use Prim.Native.Nat.{_+_, _≤_, _<_};
 ghost use lib.ListN.{length};
-ghost use Rattle.runfile.specs.Layout.{byteAt, u16At, rowAt, rowPlace, zeroByteAt, longestFile};
-ghost use Rattle.runfile.specs.Fields.{offsetOf};
-ghost use Rattle.runfile.specs.Refusals.{badRead, badField, sameFields, badByte, below, same, firstBadField, firstRow, firstLaterRow, firstByte};
+ghost use Rattle.runfile.specs.Format.{RowSize, longestOfAll};
+ghost use Rattle.runfile.specs.Layout.{numberAt, rowAt, rowPlace, zeroByteAt};
+ghost use Rattle.runfile.specs.Refusals.{zeroOld, zeroNew, badNumber, badField, sameFields, badByte, below, same, firstBadField, firstRow, firstLaterRow, firstByte};
 
 // The order in which a row's fields are looked at: that of the file.
 const FIELDS: [Field; 6] = [
@@ -20,55 +22,62 @@ const FIELDS: [Field; 6] = [
     Field::New,
 ];
 
-// Where a field's first byte stands in its row.
-fn offset_of(field: Field) -> usize
-    ensures { λ r. ⌜ (r ≡ offsetOf field) × (r < 8) ⌝ }
+// Which kinds must have old 0, and which new 0: "Kind 0 reads, and its old and new are 0".
+fn has_zero_old(kind: u8) -> bool
+    ensures { λ r. ⌜ r ≡ zeroOld kind ⌝ }
 {
-    match field {
-        Field::Process => 0,
-        Field::Kind => 1,
-        Field::Word => 2,
-        Field::ZeroByte => 3,
-        Field::Old => 4,
-        Field::New => 6,
-    }
+    kind == 0
 }
 
-// "a read whose old or new is not 0": for one of the two, which stands at `place`, of the row at `at`.
-fn is_bad_read(file: &[u8], at: usize, place: usize) -> bool
-    requires { ⌜ (at + 2 ≤ length (now file)) × (place + 2 ≤ length (now file)) ⌝ }
-    ensures { λ r. ⌜ r ≡ badRead (byteAt (now (file .entry)) (at + 1)) (u16At (now (file .entry)) place) ⌝ }
+fn has_zero_new(kind: u8) -> bool
+    ensures { λ r. ⌜ r ≡ zeroNew kind ⌝ }
 {
-    if file[at + 1] != 0 {
-        return false;
+    kind == 0
+}
+
+// Old or new, which stands at `place` in a row of this size, where it must be 0.
+fn is_bad_number(file: &[u8], zero: bool, place: usize, stride: usize) -> bool
+    requires { ⌜ RowSize stride × (place + 2 ≤ length (now file)) ⌝ }
+    ensures { λ r. ⌜ r ≡ badNumber zero (numberAt stride (now (file .entry)) place) ⌝ }
+{
+    if zero {
+        return number_at(file, place, stride) != 0;
     }
-    u16_at(file, place) != 0
+    false
 }
 
 // Refusal 9, of one field of the row at a place.
-fn is_bad_field(file: &[u8], at: usize, field: Field, header: Header) -> bool
-    requires { ⌜ at + 8 ≤ length (now file) ⌝ }
-    ensures { λ r. ⌜ r ≡ badField header (rowAt (now (file .entry)) at) (zeroByteAt (now (file .entry)) at) field ⌝ }
+fn is_bad_field(file: &[u8], at: usize, stride: usize, field: Field, header: Header) -> bool
+    requires { ⌜ RowSize stride × (at + stride ≤ length (now file)) ⌝ }
+    ensures { λ r. ⌜ r ≡ badField header (rowAt stride (now (file .entry)) at) (zeroByteAt (now (file .entry)) at) field ⌝ }
 {
     match field {
         Field::Process => file[at] >= header.processes,
         Field::Kind => file[at + 1] > 1,
         Field::Word => file[at + 2] >= header.words,
         Field::ZeroByte => file[at + 3] != 0,
-        Field::Old => is_bad_read(file, at, at + 4),
-        Field::New => is_bad_read(file, at, at + 6),
+        Field::Old => is_bad_number(file, has_zero_old(file[at + 1]), at + 4, stride),
+        Field::New => {
+            is_bad_number(
+                file,
+                has_zero_new(file[at + 1]),
+                at + new_place(stride),
+                stride,
+            )
+        }
     }
 }
 
 // Refusal 11, of the row at a place.
-fn is_same(file: &[u8], at: usize) -> bool
-    requires { ⌜ at + 8 ≤ length (now file) ⌝ }
-    ensures { λ r. ⌜ r ≡ sameFields (rowAt (now (file .entry)) at) ⌝ }
+fn is_same(file: &[u8], at: usize, stride: usize) -> bool
+    requires { ⌜ RowSize stride × (at + stride ≤ length (now file)) ⌝ }
+    ensures { λ r. ⌜ r ≡ sameFields (rowAt stride (now (file .entry)) at) ⌝ }
 {
     if file[at + 1] != 1 {
         return false;
     }
-    u16_at(file, at + 4) == u16_at(file, at + 6)
+    let new = number_at(file, at + new_place(stride), stride);
+    number_at(file, at + 4, stride) == new
 }
 
 // Refusal 12, of one byte: 0 step, 1 crash and 2 wake name a process, 3 to 14 are no action, 15 names none.
@@ -83,19 +92,25 @@ pub fn is_bad_byte(byte: u8, processes: u8) -> bool
 }
 
 // Refusal 9: of the rows that begin at `start`, the first faulty field of the first faulty row ends the search.
-pub fn first_bad_field(file: &[u8], start: usize, rows: usize, header: Header) -> Found
-    requires { ⌜ rowPlace start rows ≤ length (now file) ⌝ }
-    ensures { λ r. ⌜ r ≡ firstBadField header (now (file .entry)) start rows ⌝ }
+pub fn first_bad_field(
+    file: &[u8],
+    start: usize,
+    stride: usize,
+    rows: usize,
+    header: Header,
+) -> Found
+    requires { ⌜ RowSize stride × (rowPlace stride start rows ≤ length (now file)) ⌝ }
+    ensures { λ r. ⌜ r ≡ firstBadField header stride (now (file .entry)) start rows ⌝ }
 {
     let mut found = Found::Nowhere;
     let mut k = 0;
     'rows: while k < rows {
-        let at = start + k * 8;
+        let at = start + k * stride;
         let mut i = 0;
         'fields: while i < 6 {
             let field = FIELDS[i];
-            if is_bad_field(file, at, field, header) {
-                found = Found::At(at + offset_of(field));
+            if is_bad_field(file, at, stride, field, header) {
+                found = Found::At(at + offset_of(field, stride));
                 break 'rows;
             }
             i += 1;
@@ -106,14 +121,14 @@ pub fn first_bad_field(file: &[u8], start: usize, rows: usize, header: Header) -
 }
 
 // Refusal 10: the first row whose process is below that of the row before, so from the second row on.
-pub fn first_below(file: &[u8], start: usize, rows: usize) -> Found
-    requires { ⌜ rowPlace start rows ≤ length (now file) ⌝ }
-    ensures { λ r. ⌜ r ≡ firstLaterRow start rows (below (now (file .entry)) start) ⌝ }
+pub fn first_below(file: &[u8], start: usize, stride: usize, rows: usize) -> Found
+    requires { ⌜ RowSize stride × (rowPlace stride start rows ≤ length (now file)) ⌝ }
+    ensures { λ r. ⌜ r ≡ firstLaterRow stride start rows (below stride (now (file .entry)) start) ⌝ }
 {
     let mut k = 1;
     while k < rows {
-        let place = start + k * 8;
-        let before = place - 8;
+        let place = start + k * stride;
+        let before = place - stride;
         if file[place] < file[before] {
             return Found::At(place);
         }
@@ -123,14 +138,14 @@ pub fn first_below(file: &[u8], start: usize, rows: usize) -> Found
 }
 
 // Refusal 11: the first compare row with old equal to new.
-pub fn first_same(file: &[u8], start: usize, rows: usize) -> Found
-    requires { ⌜ rowPlace start rows ≤ length (now file) ⌝ }
-    ensures { λ r. ⌜ r ≡ firstRow start rows (same (now (file .entry)) start) ⌝ }
+pub fn first_same(file: &[u8], start: usize, stride: usize, rows: usize) -> Found
+    requires { ⌜ RowSize stride × (rowPlace stride start rows ≤ length (now file)) ⌝ }
+    ensures { λ r. ⌜ r ≡ firstRow stride start rows (same stride (now (file .entry)) start) ⌝ }
 {
     let mut k = 0;
     while k < rows {
-        let at = start + k * 8;
-        if is_same(file, at) {
+        let at = start + k * stride;
+        if is_same(file, at, stride) {
             return Found::At(at);
         }
         k += 1;
@@ -140,8 +155,8 @@ pub fn first_same(file: &[u8], start: usize, rows: usize) -> Found
 
 // Refusal 12: the first byte that is no action. The schedule is the part of the file that begins at `start`.
 pub fn first_bad_byte(schedule: &[u8], start: usize, processes: u8) -> Found
-    requires { ⌜ start + length (now schedule) ≤ longestFile ⌝ }
-    ensures { λ r. ⌜ r ≡ firstByte start processes (now (schedule .entry)) ⌝ }
+    requires { ⌜ start + length (now schedule) ≤ longestOfAll ⌝ }
+    ensures { λ r. ⌜ r ≡ firstByte start (λ before. badByte processes) (now (schedule .entry)) ⌝ }
 {
     let mut i = 0;
     while i < schedule.len() {

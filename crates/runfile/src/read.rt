@@ -1,10 +1,15 @@
 // Little-endian reads, the header by value, and where the parts begin that it gives.
 use super::Header;
 use super::Row;
+use super::format::head_size;
+use super::format::new_place;
+use super::format::row_size;
+use super::format::word_size;
 ghost use mathlib.Core.Path.{_≡_};
 ghost use Prim.Native.Nat.{_+_, _*_, _≤_, _<_};
 ghost use lib.ListN.{length};
-ghost use Rattle.runfile.specs.Layout.{headSize, u16At, u32At, rowAt, marked, headerIn, rowsStart, scheduleStart, lengthGiven};
+ghost use Rattle.runfile.specs.Format.{leastHead, RowSize};
+ghost use Rattle.runfile.specs.Layout.{u16At, u32At, numberAt, rowOfTable, HasRow, marked, headerIn, wordIn, wordPlace, rowsStart, strideOf, scheduleStart, lengthGiven};
 
 // A byte or a number of two bytes, widened: nothing is lost, and the bound goes with it.
 pub fn wide8(x: u8) -> u16
@@ -50,23 +55,49 @@ pub fn u32_at(file: &[u8], at: usize) -> u32
         + wide32(file[at + 3]) * 16777216
 }
 
-// Row k of a table of rows.
-pub fn row_at(table: &[u8], k: usize) -> Row
-    requires { ⌜ k * 8 + 8 ≤ length (now table) ⌝ }
-    ensures { λ r. ⌜ r ≡ rowAt (now (table .entry)) (k * 8) ⌝ }
+// Old or new of a row of this size.
+pub fn number_at(file: &[u8], at: usize, stride: usize) -> u16
+    requires { ⌜ RowSize stride × (at + 2 ≤ length (now file)) ⌝ }
+    ensures { λ r. ⌜ r ≡ numberAt stride (now (file .entry)) at ⌝ }
 {
-    let at = k * 8;
+    u16_at(file, at)
+}
+
+// Row k of a table of rows, which are so many bytes from one to the next.
+pub fn row_at(table: &[u8], stride: usize, k: usize) -> Row
+    requires { ⌜ HasRow stride (now table) k ⌝ }
+    ensures { λ r. ⌜ r ≡ rowOfTable stride (now (table .entry)) k ⌝ }
+{
+    let at = k * stride;
+    let new_at = at + new_place(stride);
     Row {
         process: table[at],
         kind: table[at + 1],
         word: table[at + 2],
-        old: u16_at(table, at + 4),
-        new: u16_at(table, at + 6),
+        old: number_at(table, at + 4, stride),
+        new: number_at(table, new_at, stride),
     }
 }
 
+// Of row k alone the process, and alone the word.
+pub fn process_of_row(table: &[u8], stride: usize, k: usize) -> u8
+    requires { ⌜ HasRow stride (now table) k ⌝ }
+    ensures { λ r. ⌜ r ≡ rowOfTable stride (now (table .entry)) k .process ⌝ }
+{
+    let at = k * stride;
+    table[at]
+}
+
+pub fn word_of_row(table: &[u8], stride: usize, k: usize) -> u8
+    requires { ⌜ HasRow stride (now table) k ⌝ }
+    ensures { λ r. ⌜ r ≡ rowOfTable stride (now (table .entry)) k .word ⌝ }
+{
+    let at = k * stride + 2;
+    table[at]
+}
+
 pub fn has_mark(file: &[u8]) -> bool
-    requires { ⌜ headSize ≤ length (now file) ⌝ }
+    requires { ⌜ leastHead ≤ length (now file) ⌝ }
     ensures { λ r. ⌜ r ≡ marked (now (file .entry)) ⌝ }
 {
     if file[0] != b'S' {
@@ -79,7 +110,7 @@ pub fn has_mark(file: &[u8]) -> bool
 }
 
 pub fn header_of(file: &[u8]) -> Header
-    requires { ⌜ headSize ≤ length (now file) ⌝ }
+    requires { ⌜ leastHead ≤ length (now file) ⌝ }
     ensures { λ r. ⌜ r ≡ headerIn (now (file .entry)) ⌝ }
 {
     Header {
@@ -91,16 +122,47 @@ pub fn header_of(file: &[u8]) -> Header
     }
 }
 
-pub fn rows_start(header: Header) -> usize
-    ensures { λ r. ⌜ (r ≡ rowsStart header) × (r < 1032) ⌝ }
+// The header of any file: one that is too short to have a header gives zeros.
+pub fn header_or_zeros(file: &[u8]) -> Header
+    ensures { λ r. ⌜ (leastHead ≤ length (now (file .entry)) → r ≡ headerIn (now (file .entry))) ⌝ }
 {
-    11 + index8(header.words) * 4
+    if file.len() < 11 {
+        return Header {
+            version: 0,
+            processes: 0,
+            words: 0,
+            rows: 0,
+            steps: 0,
+        };
+    }
+    header_of(file)
+}
+
+// The start word i.
+pub fn word_at(file: &[u8], header: Header, i: usize) -> u32
+    requires { ⌜ wordPlace (header .version) (i + 1) ≤ length (now file) ⌝ }
+    ensures { λ r. ⌜ r ≡ wordIn (header .version) (now (file .entry)) i ⌝ }
+{
+    let at = head_size(header.version) + i * word_size(header.version);
+    u32_at(file, at)
+}
+
+pub fn stride_of(header: Header) -> usize
+    ensures { λ r. ⌜ (r ≡ strideOf header) × RowSize r ⌝ }
+{
+    row_size(header.version)
+}
+
+pub fn rows_start(header: Header) -> usize
+    ensures { λ r. ⌜ (r ≡ rowsStart header) × (r < 2100) ⌝ }
+{
+    head_size(header.version) + index8(header.words) * word_size(header.version)
 }
 
 pub fn schedule_start(header: Header) -> usize
-    ensures { λ r. ⌜ (r ≡ scheduleStart header) × (r < 525312) ⌝ }
+    ensures { λ r. ⌜ (r ≡ scheduleStart header) × (r < 788600) ⌝ }
 {
-    rows_start(header) + index16(header.rows) * 8
+    rows_start(header) + index16(header.rows) * stride_of(header)
 }
 
 pub fn length_given(header: Header) -> usize

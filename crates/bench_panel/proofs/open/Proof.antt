@@ -34,9 +34,6 @@ start-words-requires c κs =
     let accepted = c .before in
     decides-lawful _ _ _ (accepted .before .before .check .ensures) _ (accepted .header .given .1)
 
-index8-requires : tie.Need-index8-requires
-index8-requires c κs = search needs
-
 start-requires : tie.Need-start-requires
 start-requires c κs = search needs
 
@@ -59,7 +56,6 @@ open-spec =
     write-text-requires
     enum-known-header
     start-words-requires
-    index8-requires
     start-requires
     returns
     returns-2)

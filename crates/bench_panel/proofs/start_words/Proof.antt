@@ -1,10 +1,12 @@
 -- `start_words` meets its contract: a file that is accepted has at most sixteen words, and they stand in it.
 -- Assumes nothing.
-use Prim.Native.Nat.{ℕ}
+use Prim.Native.Nat.{ℕ, _≤_}
 use native.Mathlib.Omega.{arith}
 use lib.Seq.{length-take-le}
 use lib.ListN.{length, take, replicate}
-use mathlib.Core.Path.{_≡_, sym}
+use mathlib.Core.Path.{_≡_, sym, subst, _∙_}
+use denote.Ref.{now}
+use Rattle.runfile.specs.Layout.{wordPlace}
 use borrow.Author.Needs.{needs}
 use Rattle.bench_panel.proofs.start_words.Statement.{statement}
 use Rattle.bench_panel.proofs.start_words.Tie as tie
@@ -24,11 +26,9 @@ slice-aggregate-load-words c = sym (part-size (c .before))
 
 load-words-requires : tie.Need-load-words-requires
 load-words-requires c κs =
-    let size = part-size (c .before) in
-    let l = c .before .before .before .pre in
-    let whole = l .head .exact in
-    let e = c .before .index8 .ensures .0 in
-    omega arith
+    let st = c .before .before .before in
+    let whole = st .pre .head .exact in
+    subst (λ (n : ℕ). wordPlace (st .args .header .version) n ≤ length (now (st .args .file))) (sym (part-size (c .before) ∙ c .before .index8 .ensures .0)) (omega arith)
 
 returns : tie.Need-returns
 returns c = search needs

@@ -1,6 +1,11 @@
 -- `run_words` meets its contract: the parts of the file are its table and its schedule, and what is lent to the machine is its first state.
 -- Assumes nothing.
 use Rattle.run.proofs.Finish.{asked, told}
+use Prim.Native.Nat.{ℕ, _≤_}
+use mathlib.Core.Path.{sym, subst}
+use native.Mathlib.Omega.{arith}
+use lib.ListN.{length}
+use Rattle.runfile.specs.Layout.{wordPlace}
 use denote.Ref.{now}
 use borrow.Author.Needs.{needs}
 use Rattle.run.proofs.run_words.Statement.{statement}
@@ -18,6 +23,9 @@ use Rattle.runfile.proofs.schedule_start.Reads as schedule-start-reads
 index16-requires : tie.Need-index16-requires
 index16-requires c κs = search needs
 
+stride-of-requires : tie.Need-stride-of-requires
+stride-of-requires c κs = search needs
+
 rows-start-requires : tie.Need-rows-start-requires
 rows-start-requires c κs = search needs
 
@@ -25,7 +33,10 @@ schedule-start-requires : tie.Need-schedule-start-requires
 schedule-start-requires c κs = search needs
 
 load-words-requires : tie.Need-load-words-requires
-load-words-requires c κs = search needs
+load-words-requires c κs = let s = c .before .before .before .before .before .before .before .before .before in
+    let a = s .args in
+    let e = s .pre .1 .head .exact in
+    subst (λ (n : ℕ). wordPlace (a .header .version) n ≤ length (now (a .file))) (sym (s .pre .0)) (omega arith)
 
 fresh-requires : tie.Need-fresh-requires
 fresh-requires c κs = search needs
@@ -57,10 +68,11 @@ run-bytes-requires c κs = let i8 = c in
     let lw = fr .before .before .before in
     let ss = lw .before .before in
     let rs = ss .before in
-    let ix = rs .before in
+    let so = rs .before in
+    let ix = so .before in
     let s = ix .before .before .before .before .before in
     let a = s .args in
-    asked (a .header) (now (a .file)) (now (a .words)) (now (a .log)) (now (a .answers)) (s .pre .1) _ _ _ _ _ _ (rs .rows-start .ensures .0) (ix .index16 .ensures .0) (ss .schedule-start .ensures .0) (i8 .index8 .ensures .0) (lw .load-words .ensures) (s .pre .0) (fr .fresh .ensures)
+    asked (a .header) (now (a .file)) (now (a .words)) (now (a .log)) (now (a .answers)) (s .pre .1) _ _ _ _ _ _ _ (so .stride-of .ensures .0) (rs .rows-start .ensures .0) (ix .index16 .ensures .0) (ss .schedule-start .ensures .0) (i8 .index8 .ensures .0) (lw .load-words .ensures) (s .pre .0) (fr .fresh .ensures)
 
 same-length : tie.Need-same-length
 same-length c = search needs
@@ -78,16 +90,18 @@ returns c = let rn = c .before .before .before .before .before .before in
     let lw = fr .before .before .before in
     let ss = lw .before .before in
     let rs = ss .before in
-    let ix = rs .before in
+    let so = rs .before in
+    let ix = so .before in
     let s = ix .before .before .before .before .before in
     let a = s .args in
-    told (a .header) (now (a .file)) (now (a .words)) (now (a .log)) (now (a .answers)) (s .pre .1) _ _ _ _ _ _ (rs .rows-start .ensures .0) (ix .index16 .ensures .0) (ss .schedule-start .ensures .0) (i8 .index8 .ensures .0) (lw .load-words .ensures) (s .pre .0) (fr .fresh .ensures) _ _ _ _ (rn .run-bytes .ensures)
+    told (a .header) (now (a .file)) (now (a .words)) (now (a .log)) (now (a .answers)) (s .pre .1) _ _ _ _ _ _ _ (so .stride-of .ensures .0) (rs .rows-start .ensures .0) (ix .index16 .ensures .0) (ss .schedule-start .ensures .0) (i8 .index8 .ensures .0) (lw .load-words .ensures) (s .pre .0) (fr .fresh .ensures) _ _ _ _ (rn .run-bytes .ensures)
 
 pub run-words-spec : {M : Type 1} → statement M
 run-words-spec =
     tie.close
     (tie.spec
     index16-requires
+    stride-of-requires
     rows-start-requires
     schedule-start-requires
     load-words-requires

@@ -1,6 +1,6 @@
 -- `check_file` meets its contract: a file that is long enough is refused by its head, or its head is lawful and the body decides.
 -- Assumes nothing.
-use Rattle.runfile.specs.Lawful.{lawful-head, longest}
+use Rattle.runfile.specs.Lawful.{lawful-head, longest-any}
 use Rattle.runfile.specs.Order.{passes, stops, accepts}
 use Rattle.runfile.specs.Refusals.{found, noRoom, firstOf, headChecks, bodyChecks, fileRefusal}
 use Rattle.runfile.specs.Layout.{headerIn}
@@ -46,7 +46,7 @@ check-body-requires c κs = let k = c .before .before in
     let f = now (k .before .before .before .before .args .file) in
     let h = accepts (finds k) (headerIn f) headChecks _ (checked k ∙ c .enum-told .given .1) in
     let l = lawful-head (headerIn f) f noRoom (h .1) in
-    rw (k .before .header-of .ensures) (l .exact, longest (headerIn f) f l)
+    rw (k .before .header-of .ensures) (l .exact, longest-any (headerIn f) f l)
 
 returns-3 : tie.Need-returns-3
 unfolding fileRefusal

@@ -15,10 +15,10 @@ use denote.Enum.Declared.{tagOf}
 use Rattle.machine.proofs.Status.{the-type}
 use Rattle.runfile.specs.declared.Row.{Row}
 use Rattle.runfile.specs.Actions.{named}
-use Rattle.runfile.specs.Layout.{rowAt}
+use Rattle.runfile.specs.Layout.{rowOfTable}
 use Rattle.runfile.specs.Operations.{rowsFrom, rowNumbered, first, count}
 use Rattle.runfile.specs.OperationLaws.{length-rowsFrom}
-use Rattle.runfile.specs.Lines.{Counted, last-fits, first-at, sum-fits}
+use Rattle.runfile.specs.Lines.{Counted, has-row, last-fits, first-at, sum-fits}
 use Rattle.machine.specs.declared.Process.{Process}
 use Rattle.machine.specs.declared.Standing.{Standing}
 use Rattle.machine.specs.declared.Maybe.the-variants.{Is}
@@ -35,11 +35,11 @@ use Rattle.machine.proofs.engine.run_bytes.Statement.{statement}
 use Rattle.machine.proofs.engine.run_bytes.Tie as tie
 
 abbrev Inv-loop : tie.InvT-loop
-Inv-loop table n schedule words₀ log₀ answers₀ present counts firsts from-position processes₀ log-rows₀ answer-rows₀ i₀ words log answers processes log-rows answer-rows i =
-    Holding (rowsFrom table 0 n) present (record { processes = processes₀; position = from-position; log = log-rows₀; answers = answer-rows₀ }) schedule words₀ log₀ answers₀ i words log answers processes log-rows answer-rows
+Inv-loop table stride n schedule words₀ log₀ answers₀ present counts firsts from-position processes₀ log-rows₀ answer-rows₀ i₀ words log answers processes log-rows answer-rows i =
+    Holding (rowsFrom stride table 0 n) present (record { processes = processes₀; position = from-position; log = log-rows₀; answers = answer-rows₀ }) schedule words₀ log₀ answers₀ i words log answers processes log-rows answer-rows
 
 abbrev μ-loop : tie.MeasureT-loop
-μ-loop table n schedule words₀ log₀ answers₀ present counts firsts from-position processes₀ log-rows₀ answer-rows₀ i₀ words log answers processes log-rows answer-rows i = length schedule - i
+μ-loop table stride n schedule words₀ log₀ answers₀ present counts firsts from-position processes₀ log-rows₀ answer-rows₀ i₀ words log answers processes log-rows answer-rows i = length schedule - i
 
 -- the places: the loop's head, the function's start
 abbrev head : tie.After-index8 Inv-loop μ-loop → tie.At-loop Inv-loop μ-loop
@@ -51,11 +51,14 @@ begins l = l .before .before .before .before .before .before .before .before .be
 abbrev table : tie.At-loop Inv-loop μ-loop → List ℕ
 table l = now (begins l .args .table)
 
+abbrev stride : tie.At-loop Inv-loop μ-loop → ℕ
+stride l = begins l .args .stride
+
 abbrev n : tie.At-loop Inv-loop μ-loop → ℕ
 n l = begins l .args .n
 
 abbrev rows : tie.At-loop Inv-loop μ-loop → List Row
-rows l = rowsFrom (table l) 0 (n l)
+rows l = rowsFrom (stride l) (table l) 0 (n l)
 
 abbrev from : tie.At-loop Inv-loop μ-loop → Standing
 from l = begins l .args .from
@@ -168,7 +171,7 @@ open-in : (b : tie.After-number-of Inv-loop μ-loop) → K b < n (head (turn-at 
 open-in b =
     let l = head (turn-at b) in
     let w = subst (λ st. WorkOpen st (mine (turn-at b) .opened)) (b .before .before .before .before .before .status .given .1) (busy-is b) in
-    subst (λ o. rowOpen o < n l) (sym (w .1)) (rw (length-rowsFrom (table l) 0 (n l)) at (sane-of (step-at b) .in-file (w .0) (w .1)))
+    subst (λ o. rowOpen o < n l) (sym (w .1)) (rw (length-rowsFrom (stride l) (table l) 0 (n l)) at (sane-of (step-at b) .in-file (w .0) (w .1)))
 
 row-no : (b : tie.After-number-of Inv-loop μ-loop) → b .before .before .open-row .result ≡ K b
 row-no b = b .before .before .open-row .ensures
@@ -176,20 +179,20 @@ row-no b = b .before .before .open-row .ensures
 k-is : (b : tie.After-number-of Inv-loop μ-loop) → b .before .index16 .result ≡ K b
 k-is b = b .before .index16 .ensures .0 ∙ row-no b
 
-row-found : (b : tie.After-number-of Inv-loop μ-loop) → (let l = head (turn-at b) in rowAt (table l) (b .before .index16 .result * 8) ≡ rowNumbered (rows l) (K b))
-row-found b = let l = head (turn-at b) in ap (λ (k : ℕ). rowAt (table l) (k * 8)) (k-is b) ∙ row-is (table l) (n l) (K b) (open-in b)
+row-found : (b : tie.After-number-of Inv-loop μ-loop) → (let l = head (turn-at b) in rowOfTable (stride l) (table l) (b .before .index16 .result) ≡ rowNumbered (rows l) (K b))
+row-found b = let l = head (turn-at b) in ap (λ (k : ℕ). rowOfTable (stride l) (table l) k) (k-is b) ∙ row-is (stride l) (table l) (n l) (K b) (open-in b)
 
-row-numbered : (b : tie.After-number-of Inv-loop μ-loop) → (let l = head (turn-at b) in rowAt (table l) (b .before .before .open-row .result * 8) ≡ rowNumbered (rows l) (K b))
-row-numbered b = let l = head (turn-at b) in ap (λ (k : ℕ). rowAt (table l) (k * 8)) (row-no b) ∙ row-is (table l) (n l) (K b) (open-in b)
+row-numbered : (b : tie.After-number-of Inv-loop μ-loop) → (let l = head (turn-at b) in rowOfTable (stride l) (table l) (b .before .before .open-row .result) ≡ rowNumbered (rows l) (K b))
+row-numbered b = let l = head (turn-at b) in ap (λ (k : ℕ). rowOfTable (stride l) (table l) k) (row-no b) ∙ row-is (stride l) (table l) (n l) (K b) (open-in b)
 
-reach : (b : tie.After-number-of Inv-loop μ-loop) → Reach (table (head (turn-at b))) (b .before .index16 .result) (head (turn-at b) .loop .words)
+reach : (b : tie.After-number-of Inv-loop μ-loop) → Reach (stride (head (turn-at b))) (table (head (turn-at b))) (b .before .index16 .result) (head (turn-at b) .loop .words)
 reach b =
     let l = head (turn-at b) in
     let p = begins l .pre in
-    subst (λ (k : ℕ). Reach (table l) k (l .loop .words)) (sym (k-is b))
-    (record { row = (let w = p .lined .whole in let o = open-in b in omega arith); word = rw (l .loop .inv .words-same) (p .on-words (K b) (open-in b)) })
+    subst (λ (k : ℕ). Reach (stride l) (table l) k (l .loop .words)) (sym (k-is b))
+    (record { row = has-row (stride l) (table l) (n l) (K b) (p .lined .size) (p .lined .whole) (open-in b); word = rw (l .loop .inv .words-same) (p .on-words (K b) (open-in b)) })
 
-word-is : (b : tie.After-number-of Inv-loop μ-loop) (now : ℕ) → (let l = head (turn-at b) in now ≡ getD (l .loop .words) (rowAt (table l) (b .before .index16 .result * 8) .word) 0 → now ≡ getD (l .loop .words) (rowNumbered (rows l) (K b) .word) 0)
+word-is : (b : tie.After-number-of Inv-loop μ-loop) (now : ℕ) → (let l = head (turn-at b) in now ≡ getD (l .loop .words) (rowOfTable (stride l) (table l) (b .before .index16 .result) .word) 0 → now ≡ getD (l .loop .words) (rowNumbered (rows l) (K b) .word) 0)
 word-is b now e = let l = head (turn-at b) in e ∙ ap (λ (row : Row). getD (l .loop .words) (row .word) 0) (row-found b)
 
 -- a status other than Down is not woken
@@ -221,12 +224,12 @@ counts-of-requires c κs = search needs
 
 firsts-of-requires : tie.Need-firsts-of-requires Inv-loop μ-loop
 firsts-of-requires c κs = let s = c .before .before .before .before .before .before in
-    sum-fits (now (s .args .table)) (s .args .n) (c .counts-of .result) (s .pre .lined .few) (c .counts-of .ensures)
+    sum-fits (s .args .stride) (now (s .args .table)) (s .args .n) (c .counts-of .result) (s .pre .lined .few) (c .counts-of .ensures)
 
 loop-holds : tie.Need-loop-holds Inv-loop μ-loop
 loop-holds c = let s = c .before .before .before .before .before .before .before .before in
     let a = s .args in
-    hold-start (rowsFrom (now (a .table)) 0 (a .n)) (a .present) (a .from) (now (a .schedule)) (now (a .words)) (now (a .log)) (now (a .answers)) (sixteen s) (let r = s .pre .log-room in omega arith) (let r = s .pre .answers-room in omega arith)
+    hold-start (rowsFrom (a .stride) (now (a .table)) 0 (a .n)) (a .present) (a .from) (now (a .schedule)) (now (a .words)) (now (a .log)) (now (a .answers)) (sixteen s) (let r = s .pre .log-room in omega arith) (let r = s .pre .answers-room in omega arith)
 
 shared-slice-read-byte : tie.Need-shared-slice-read-byte Inv-loop μ-loop
 shared-slice-read-byte c = search needs
@@ -341,7 +344,7 @@ start-requires c κs = let s = c .before .before .before .before in
     let l = head x in
     let left = sane-of s .left (subst Announcing (sym (c .before .enum-told4 .given .1)) tt) in
     let f = last-fits (rows l) (me l) in
-    let g = length-rowsFrom (table l) 0 (n l) in
+    let g = length-rowsFrom (stride l) (table l) 0 (n l) in
     let d = begins l .pre .lined .few in
     rw (firsts-are x) (omega arith)
 
@@ -534,7 +537,7 @@ enter-requires c κs = let b = c .before .before .before in
     let x = turn-at b in
     let l = head x in
     let r = log-room x in
-    (record { whole = begins l .pre .lined .whole; row = subst (λ (k : ℕ). k < n l) (sym (row-no b)) (open-in b); rows = omega arith }, r)
+    (record { size = begins l .pre .lined .size; whole = begins l .pre .lined .whole; row = subst (λ (k : ℕ). k < n l) (sym (row-no b)) (open-in b); rows = omega arith }, r)
 
 loop-less-11 : tie.Need-loop-less-11 Inv-loop μ-loop
 loop-less-11 c = search needs
@@ -545,7 +548,7 @@ loop-again-11 c = let en = c .before .before in
     let b = bu .before .before in
     let s = step-at b in
     let x = s .before in
-    hold-entered (head x .loop .inv) (meets x) (low s) (here x) (is s) _ _ _ _ _ (at-A5 (head x .loop .inv) (meets x) (low s) (here x) (is s) (b .before .before .before .before .before .status .given .1) (busy-is b) _ (b .number-of .ensures) (bu .before .match2 .keys5) _ (bu .busy5 .ensures)) (row-no b) (row-numbered b) (en .enter .kept .1 .1 .0) (en .enter .ensures)
+    hold-entered (head x .loop .inv) (meets x) (low s) (here x) (is s) _ _ _ _ _ (at-A5 (head x .loop .inv) (meets x) (low s) (here x) (is s) (b .before .before .before .before .before .status .given .1) (busy-is b) _ (b .number-of .ensures) (bu .before .match2 .keys5) _ (bu .busy5 .ensures)) (row-no b) (row-numbered b) (en .enter .kept .1 .1 .1 .0) (en .enter .ensures)
 
 recovered-of-requires : tie.Need-recovered-of-requires Inv-loop μ-loop
 recovered-of-requires c κs = search needs
@@ -778,8 +781,8 @@ loop-less-24 c = search needs
 loop-again-24 : tie.Need-loop-again-24 Inv-loop μ-loop
 loop-again-24 c = nothing (c .before .before)
 
-add-t296 : tie.Need-add-t296 Inv-loop μ-loop
-add-t296 c = record { fits = let a = begins (c .before) .pre .early in omega arith }
+add-t297 : tie.Need-add-t297 Inv-loop μ-loop
+add-t297 c = record { fits = let a = begins (c .before) .pre .early in omega arith }
 
 same-length : tie.Need-same-length Inv-loop μ-loop
 same-length c = c .before .loop .inv .words-same
@@ -958,7 +961,7 @@ run-bytes-spec =
     loop-again-23
     loop-less-24
     loop-again-24
-    add-t296
+    add-t297
     same-length
     same-length-2
     same-length-3

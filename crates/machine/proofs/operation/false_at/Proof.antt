@@ -1,9 +1,10 @@
 -- `false_at` meets its contract: whether the value read was old.
 -- Assumes nothing.
 use Prim.Native.Nat.{ℕ, _*_}
-use mathlib.Core.Path.{ap, _∙_}
+use mathlib.Core.Path.{ap, sym, subst, _∙_}
 use denote.Ref.{now}
-use Rattle.runfile.specs.Layout.{rowAt}
+use Rattle.runfile.specs.Layout.{rowOfTable, HasRow}
+use Rattle.runfile.specs.Lines.{has-row}
 use Rattle.runfile.specs.Operations.{rowsFrom}
 use Rattle.rows.specs.Buffers.{rowsOf}
 use Rattle.machine.proofs.Entering.{lost-at, other-at}
@@ -15,7 +16,9 @@ index16-requires : tie.Need-index16-requires
 index16-requires c κs = search needs
 
 row-at-requires : tie.Need-row-at-requires
-row-at-requires c κs = search needs
+row-at-requires c κs = let s = c .before .before .before in
+    let a = s .args in
+    subst (λ (k : ℕ). HasRow (a .stride) (now (a .table)) k) (sym (c .index16 .ensures .0)) (has-row _ _ _ _ (s .pre .size) (s .pre .whole) (s .pre .row))
 
 cast-read-at : tie.Need-cast-read-at
 cast-read-at c = search needs
@@ -36,13 +39,13 @@ returns : tie.Need-returns
 returns c = let v = c .before .before .before in
     let ra = v .before .before .before in
     let a = ra .before .before .before .before .args in
-    lost-at (rowsFrom (now (a .table)) 0 (a .n)) _ _ (rowsOf (a .log-rows) (now (a .log))) (a .work) _ (ra .row-at .ensures ∙ ap (λ (k : ℕ). rowAt (now (a .table)) (k * 8)) (ra .before .index16 .ensures .0)) (v .value-of .ensures) _ (c .before .if1 .taken) (c .first-swap-after .ensures)
+    lost-at (rowsFrom (a .stride) (now (a .table)) 0 (a .n)) _ _ (rowsOf (a .log-rows) (now (a .log))) (a .work) _ (ra .row-at .ensures ∙ ap (λ (k : ℕ). rowOfTable (a .stride) (now (a .table)) k) (ra .before .index16 .ensures .0)) (v .value-of .ensures) _ (c .before .if1 .taken) (c .first-swap-after .ensures)
 
 returns-2 : tie.Need-returns-2
 returns-2 c = let v = c .before .before in
     let ra = v .before .before .before in
     let a = ra .before .before .before .before .args in
-    other-at (rowsFrom (now (a .table)) 0 (a .n)) _ _ (rowsOf (a .log-rows) (now (a .log))) (a .work) _ (ra .row-at .ensures ∙ ap (λ (k : ℕ). rowAt (now (a .table)) (k * 8)) (ra .before .index16 .ensures .0)) (v .value-of .ensures) (c .if1 .left)
+    other-at (rowsFrom (a .stride) (now (a .table)) 0 (a .n)) _ _ (rowsOf (a .log-rows) (now (a .log))) (a .work) _ (ra .row-at .ensures ∙ ap (λ (k : ℕ). rowOfTable (a .stride) (now (a .table)) k) (ra .before .index16 .ensures .0)) (v .value-of .ensures) (c .if1 .left)
 
 pub false-at-spec : {M : Type 1} → statement M
 false-at-spec =

@@ -1,18 +1,15 @@
--- `put_word` meets its contract: the word's number is the third byte of the row.
+-- `put_word` meets its contract: the word's number is the word of the row.
 -- Assumes nothing.
-use Rattle.runfile.specs.Layout.{rowAt}
+use Prim.Native.Nat.{ℕ}
+use mathlib.Core.Path.{ap, _∙_}
+use denote.Ref.{now}
+use lib.ListN.{set}
 use borrow.Author.Needs.{needs}
 use Rattle.machine.proofs.operation.put_word.Statement.{statement}
 use Rattle.machine.proofs.operation.put_word.Tie as tie
 
-mul-index8 : tie.Need-mul-index8
-mul-index8 c = search needs
-
-add-index8 : tie.Need-add-index8
-add-index8 c = search needs
-
-shared-slice-read-index8 : tie.Need-shared-slice-read-index8
-shared-slice-read-index8 c = search needs
+word-of-row-requires : tie.Need-word-of-row-requires
+word-of-row-requires c κs = search needs
 
 index8-requires : tie.Need-index8-requires
 index8-requires c κs = search needs
@@ -27,16 +24,14 @@ same-length : tie.Need-same-length
 same-length c = search needs
 
 returns : tie.Need-returns
-unfolding rowAt
-returns c = rw (c .index8 .ensures .0)
+returns c = let a = c .before .before .before .before .args in
+    ap (λ (w : ℕ). set (now (a .words)) w (a .new)) (c .index8 .ensures .0 ∙ c .before .word-of-row .ensures)
 
 pub put-word-spec : {M : Type 1} → statement M
 put-word-spec =
     tie.close
     (tie.spec
-    mul-index8
-    add-index8
-    shared-slice-read-index8
+    word-of-row-requires
     index8-requires
     mul-words
     slice-write-words

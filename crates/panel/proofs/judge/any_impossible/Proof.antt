@@ -24,14 +24,14 @@ use Rattle.runfile.proofs.counts_of.Reads as counts-of-reads
 use Rattle.runfile.proofs.firsts_of.Reads as firsts-of-reads
 
 abbrev Inv-loop : tie.InvT-loop
-Inv-loop table n present processes counts firsts p₀ p = (p ≤ present) × (anyImpossible (rowsFrom table 0 n) processes 0 present ≡ anyImpossible (rowsFrom table 0 n) processes p (present - p))
+Inv-loop table stride n present processes counts firsts p₀ p = (p ≤ present) × (anyImpossible (rowsFrom stride table 0 n) processes 0 present ≡ anyImpossible (rowsFrom stride table 0 n) processes p (present - p))
 
 abbrev μ-loop : tie.MeasureT-loop
-μ-loop table n present processes counts firsts p₀ p = present - p
+μ-loop table stride n present processes counts firsts p₀ p = present - p
 
 -- the two tables, at a process that there may be
 abbrev rowsAt : tie.At-loop Inv-loop μ-loop → List Row
-rowsAt l = rowsFrom (now (l .before .before .before .before .args .table)) 0 (l .before .before .before .before .args .n)
+rowsAt l = rowsFrom (l .before .before .before .before .args .stride) (now (l .before .before .before .before .args .table)) 0 (l .before .before .before .before .args .n)
 
 counts-are : (l : tie.At-loop Inv-loop μ-loop) → l .loop .p < 16 → getD (l .before .before .counts-of .result) (l .loop .p) 0 ≡ count (rowsAt l) (l .loop .p)
 counts-are l h = l .before .before .counts-of .ensures .each (l .loop .p) h
@@ -43,7 +43,7 @@ low : (c : tie.After-process Inv-loop μ-loop) → c .before .before .loop .p < 
 low c = let i = c .before .loop-test .taken in let w = c .before .before .before .before .before .before .pre .0 in omega arith
 
 -- what the record's test says
-tested : (c : tie.After-is-impossible Inv-loop μ-loop) → let l = c .before .before .before in c .is-impossible .result ≡ impossible (rowsAt l) (l .loop .p) (getD (l .before .before .before .before .args .t3) (l .loop .p) nobody)
+tested : (c : tie.After-is-impossible Inv-loop μ-loop) → let l = c .before .before .before in c .is-impossible .result ≡ impossible (rowsAt l) (l .loop .p) (getD (l .before .before .before .before .args .t4) (l .loop .p) nobody)
 unfolding impossible
 tested c = let l = c .before .before .before in rw (firsts-are l (low (c .before)), counts-are l (low (c .before))) at (c .is-impossible .ensures)
 
@@ -55,11 +55,11 @@ counts-of-requires c κs = c .before .pre .1
 firsts-of-requires : tie.Need-firsts-of-requires Inv-loop μ-loop
 firsts-of-requires c κs =
     let st = c .before .before in
-    sum-fits (now (st .args .table)) (st .args .n) (c .counts-of .result) (st .pre .1 .few) (c .counts-of .ensures)
+    sum-fits (st .args .stride) (now (st .args .table)) (st .args .n) (c .counts-of .result) (st .pre .1 .few) (c .counts-of .ensures)
 
 -- src/judge.rt:49:5
 loop-holds : tie.Need-loop-holds Inv-loop μ-loop
-loop-holds c = (search needs, ap (anyImpossible (rowsFrom (now (c .before .before .before .args .table)) 0 (c .before .before .before .args .n)) _ 0) (omega arith))
+loop-holds c = (search needs, ap (anyImpossible (rowsFrom (c .before .before .before .args .stride) (now (c .before .before .before .args .table)) 0 (c .before .before .before .args .n)) _ 0) (omega arith))
 
 -- src/judge.rt:50:23
 mul-process : tie.Need-mul-process Inv-loop μ-loop
@@ -90,8 +90,8 @@ is-impossible-requires : tie.Need-is-impossible-requires Inv-loop μ-loop
 is-impossible-requires c κs = let l = c .before .before in
     let st = l .before .before .before .before in
     let f = last-fits (rowsAt l) (l .loop .p) in
-    let g = length-rowsFrom (now (st .args .table)) 0 (st .args .n) in
-    (st .pre .1 .whole, rw (firsts-are l (low c), counts-are l (low c)) (omega arith))
+    let g = length-rowsFrom (st .args .stride) (now (st .args .table)) 0 (st .args .n) in
+    (st .pre .1 .size, st .pre .1 .whole, rw (firsts-are l (low c), counts-are l (low c)) (omega arith))
 
 -- src/judge.rt:52:13
 returns : tie.Need-returns Inv-loop μ-loop
@@ -119,7 +119,7 @@ unfolding anyImpossible
 returns-2 c = let l = c .before in
     let e = l .loop .inv .0 in
     let z : l .before .before .before .before .args .present - l .loop .p ≡ 0 = (let t = c .loop-test .left in omega arith) in
-    sym (l .loop .inv .1 ∙ ap (anyImpossible (rowsAt l) (l .before .before .before .before .args .t3) (l .loop .p)) z)
+    sym (l .loop .inv .1 ∙ ap (anyImpossible (rowsAt l) (l .before .before .before .before .args .t4) (l .loop .p)) z)
 
 pub any-impossible-spec : {M : Type 1} → statement M
 any-impossible-spec =

@@ -1,13 +1,14 @@
 -- `is_impossible` meets its contract: a record that is not misplaced has no row open, and then its kind makes no difference, or one of the table.
 -- Assumes nothing.
 use Prim.Native.Nat.{ℕ, _+_, _*_, _≤_, _<_}
-use mathlib.Core.Path.{_≡_, refl, sym, _∙_, ap}
+use mathlib.Core.Path.{_≡_, refl, sym, subst, _∙_, ap}
 use mathlib.Core.Bool.{Bool, true, false, not, _||_, true≢false}
 use native.Mathlib.Omega.{arith}
 use lib.Dec.{eqb, ltb}
 use borrow.Author.Tests.{eqb-true, ltb-false}
 use denote.Ref.{now}
-use Rattle.runfile.specs.Layout.{rowAt}
+use Rattle.runfile.specs.Layout.{rowOfTable, HasRow}
+use Rattle.runfile.specs.Lines.{has-row}
 use Rattle.runfile.specs.Operations.{rowsFrom, rowNumbered, reads}
 use Rattle.machine.specs.Records.{rowOpen}
 use Rattle.machine.specs.Reach.{row-is}
@@ -71,9 +72,8 @@ row-at-requires : tie.Need-row-at-requires
 row-at-requires c κs = let m = c .before .before .before .before in
     let st = m .before .before .before in
     let k = inside (st .args .first) (st .args .count) (st .args .process) _ (c .before .before .opened .given .1) (sym (m .before .misplaced .ensures) ∙ m .if1 .left) in
-    let a = st .pre .0 in
-    let b = st .pre .1 in
-    rw (c .index16 .ensures .0) (omega arith)
+    let b = st .pre .2 in
+    subst (λ (k : ℕ). HasRow (st .args .stride) (now (st .args .table)) k) (sym (c .index16 .ensures .0)) (has-row _ _ _ _ (st .pre .0) (st .pre .1) (omega arith))
 
 -- src/judge.rt:36:13
 misdone-requires-2 : tie.Need-misdone-requires-2
@@ -96,8 +96,8 @@ returns-3 c = let o = c .before .before .before .before .before in
     let ra = c .before .before in
     or-miss _ _ _ miss
     (c .misdone2 .ensures ∙ ap (λ row. misdone (reads row) (b .process))
-    (ra .row-at .ensures ∙ ap (λ i. rowAt (now (b .table)) (i * 8)) (ra .before .index16 .ensures .0) ∙ row-is (now (b .table)) (b .n) _ (omega arith)
-    ∙ ap (λ o. rowNumbered (rowsFrom (now (b .table)) 0 (b .n)) (rowOpen o)) (sym (o .opened .given .1))))
+    (ra .row-at .ensures ∙ ap (λ i. rowOfTable (b .stride) (now (b .table)) i) (ra .before .index16 .ensures .0) ∙ row-is (b .stride) (now (b .table)) (b .n) _ (omega arith)
+    ∙ ap (λ o. rowNumbered (rowsFrom (b .stride) (now (b .table)) 0 (b .n)) (rowOpen o)) (sym (o .opened .given .1))))
 
 pub is-impossible-spec : {M : Type 1} → statement M
 is-impossible-spec =

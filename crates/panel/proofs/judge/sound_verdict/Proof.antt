@@ -20,30 +20,34 @@ use Rattle.runfile.proofs.is_bad_byte.Reads as is-bad-byte-reads
 use Rattle.runfile.proofs.index16.Reads as index16-reads
 use Rattle.runfile.proofs.index8.Reads as index8-reads
 use Rattle.runfile.proofs.rows_start.Reads as rows-start-reads
+use Rattle.runfile.proofs.stride_of.Reads as stride-of-reads
 
 -- the part of the file that is lent is the table, and the search over it is that over the file's rows
-asked : (c : tie.After-any-impossible-arg) → let i8 = c .before in let i16 = i8 .before in let rs = i16 .before in let b = rs .before .before .before .args in
-    (i8 .index8 .result ≤ 16) × Lined (take (length (now (b .file)) - rs .rows-start .result) (drop (rs .rows-start .result) (now (b .file)))) (i16 .index16 .result)
+asked : (c : tie.After-any-impossible-arg) → let i8 = c .before in let i16 = i8 .before in let rs = i16 .before in let b = rs .before .before .before .before .args in
+    (i8 .index8 .result ≤ 16) × Lined (rs .before .stride-of .result) (take (length (now (b .file)) - rs .rows-start .result) (drop (rs .rows-start .result) (now (b .file)))) (i16 .index16 .result)
 asked c =
     let i8 = c .before in
     let i16 = i8 .before in
     let rs = i16 .before in
-    let st = rs .before .before .before in
+    let st = rs .before .before .before .before in
     let few = st .pre .head .processes in
-    (rw (i8 .index8 .ensures .0) few, rw (part-all (now (st .args .file)) (rs .rows-start .result), rs .rows-start .ensures .0, i16 .index16 .ensures .0) (lined-part (st .args .header) (now (st .args .file)) ample (st .pre)))
+    (rw (i8 .index8 .ensures .0) few, rw (part-all (now (st .args .file)) (rs .rows-start .result), rs .before .stride-of .ensures .0, rs .rows-start .ensures .0, i16 .index16 .ensures .0) (lined-part (st .args .header) (now (st .args .file)) ample (st .pre)))
 
-found : (c : tie.After-any-impossible) → let b = c .before .before .before .before .before .before .before .args in
+found : (c : tie.After-any-impossible) → let b = c .before .before .before .before .before .before .before .before .args in
     c .any-impossible .result ≡ anyImpossible (tableOf (b .header) (now (b .file))) (b .processes) 0 (b .header .processes)
 found c =
     let i8 = c .before .before in
     let i16 = i8 .before in
     let rs = i16 .before in
-    let b = rs .before .before .before .args in
-    (rw (part-all (now (b .file)) (rs .rows-start .result), rs .rows-start .ensures .0, i16 .index16 .ensures .0, i8 .index8 .ensures .0, table-part (b .header) (now (b .file))) at (c .any-impossible .ensures))
+    let b = rs .before .before .before .before .args in
+    (rw (part-all (now (b .file)) (rs .rows-start .result), rs .before .stride-of .ensures .0, rs .rows-start .ensures .0, i16 .index16 .ensures .0, i8 .index8 .ensures .0, table-part (b .header) (now (b .file))) at (c .any-impossible .ensures))
 
 -- src/judge.rt:98:9
 returns : tie.Need-returns
 returns c = rw (lt-ltb _ _ (c .if1 .taken)) refl
+
+stride-of-requires : tie.Need-stride-of-requires
+stride-of-requires c κs = search needs
 
 -- src/judge.rt:100:9
 rows-start-requires : tie.Need-rows-start-requires
@@ -75,7 +79,7 @@ any-impossible-requires c κs = asked c
 
 -- src/judge.rt:104:9
 returns-2 : tie.Need-returns-2
-returns-2 c = rw (le-ltb _ _ (c .before .before .before .before .before .before .if1 .left), sym (found (c .before)) ∙ c .if2 .taken) refl
+returns-2 c = rw (le-ltb _ _ (c .before .before .before .before .before .before .before .if1 .left), sym (found (c .before)) ∙ c .if2 .taken) refl
 
 -- src/judge.rt:106:8
 is-bad-byte-requires : tie.Need-is-bad-byte-requires
@@ -83,17 +87,18 @@ is-bad-byte-requires c κs = search needs
 
 -- src/judge.rt:107:9
 returns-3 : tie.Need-returns-3
-returns-3 c = rw (le-ltb _ _ (c .before .before .before .before .before .before .before .before .if1 .left), sym (found (c .before .before .before)) ∙ c .before .before .if2 .left, sym (c .before .is-bad-byte .ensures) ∙ c .if3 .taken) refl
+returns-3 c = rw (le-ltb _ _ (c .before .before .before .before .before .before .before .before .before .if1 .left), sym (found (c .before .before .before)) ∙ c .before .before .if2 .left, sym (c .before .is-bad-byte .ensures) ∙ c .if3 .taken) refl
 
 -- src/judge.rt:87:1
 returns-4 : tie.Need-returns-4
-returns-4 c = rw (le-ltb _ _ (c .before .before .before .before .before .before .before .before .if1 .left), sym (found (c .before .before .before)) ∙ c .before .before .if2 .left, sym (c .before .is-bad-byte .ensures) ∙ c .if3 .left) refl
+returns-4 c = rw (le-ltb _ _ (c .before .before .before .before .before .before .before .before .before .if1 .left), sym (found (c .before .before .before)) ∙ c .before .before .if2 .left, sym (c .before .is-bad-byte .ensures) ∙ c .if3 .left) refl
 
 pub sound-verdict-spec : {M : Type 1} → statement M
 sound-verdict-spec =
     tie.close
     (tie.spec
     returns
+    stride-of-requires
     rows-start-requires
     index16-requires
     index8-requires

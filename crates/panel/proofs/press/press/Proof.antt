@@ -24,9 +24,9 @@ fitted : (c : tie.After-verdict2) → let b = begins c .args in Fit (c .verdict2
 fitted c = let b = begins c .args in fit (now (b .file)) (b .n) (pressing (b .byte) (b .position) (b .log-rows) (b .answer-rows)) (lent (b .processes) (now (b .words)) (now (b .log)) (now (b .answers))) _ (fine c)
 
 -- the table begins in the file
-rows-in : (c : tie.After-rows-start) → let v = c .before .before in c .rows-start .result ≤ length (now (begins v .args .file))
+rows-in : (c : tie.After-rows-start) → let v = c .before .before .before in c .rows-start .result ≤ length (now (begins v .args .file))
 rows-in c =
-    let e = fitted (c .before .before) .lawful .head .exact in
+    let e = fitted (c .before .before .before) .lawful .head .exact in
     let r = c .rows-start .ensures .0 in
     omega arith
 
@@ -38,6 +38,9 @@ enum-known-verdict c = search needs
 
 enum-known-verdict-2 : tie.Need-enum-known-verdict-2
 enum-known-verdict-2 c = search needs
+
+stride-of-requires : tie.Need-stride-of-requires
+stride-of-requires c κs = search needs
 
 rows-start-requires : tie.Need-rows-start-requires
 rows-start-requires c κs = search needs
@@ -64,7 +67,7 @@ run-bytes-requires : tie.Need-run-bytes-requires
 run-bytes-requires c κs = let i8 = c .before .before .before .before .before in
     let ix = i8 .before in
     let rs = ix .before in
-    able-in _ _ _ _ (fitted (rs .before .before)) _ _ _ (rs .rows-start .ensures .0) (ix .index16 .ensures .0) (i8 .index8 .ensures .0)
+    able-in _ _ _ _ (fitted (rs .before .before .before)) _ _ _ _ (rs .before .stride-of .ensures .0) (rs .rows-start .ensures .0) (ix .index16 .ensures .0) (i8 .index8 .ensures .0)
 
 same-length : tie.Need-same-length
 same-length c = search needs
@@ -93,10 +96,10 @@ returns-2 c = let rn = c .before .before .before .before .before .before .before
     let i8 = rn .before .before .before .before .before .before in
     let ix = i8 .before in
     let rs = ix .before in
-    let v = rs .before .before in
+    let v = rs .before .before .before in
     let b = begins v .args in
     was-fine (now (b .file)) (b .n) (b .processes) (now (b .words)) (now (b .log)) (now (b .answers)) (b .byte) (b .position) (b .log-rows) (b .answer-rows) _ (fine v) _ _ _ _ _
-    (went _ _ _ _ (fitted v) _ _ _ (rs .rows-start .ensures .0) (ix .index16 .ensures .0) (i8 .index8 .ensures .0) _ _ _ _ (rn .run-bytes .ensures))
+    (went _ _ _ _ (fitted v) _ _ _ _ (rs .before .stride-of .ensures .0) (rs .rows-start .ensures .0) (ix .index16 .ensures .0) (i8 .index8 .ensures .0) _ _ _ _ (rn .run-bytes .ensures))
 
 pub press-spec : {M : Type 1} → statement M
 press-spec =
@@ -105,6 +108,7 @@ press-spec =
     verdict-of-requires
     enum-known-verdict
     enum-known-verdict-2
+    stride-of-requires
     rows-start-requires
     index16-requires
     index8-requires

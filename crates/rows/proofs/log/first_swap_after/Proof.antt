@@ -19,10 +19,10 @@ record Searching (operations : List Row) (log : List ℕ) (rows after word none 
   kept : firstSwap operations word after none (drop i (rowsOf rows log)) ≡ firstSwap operations word after none (rowsOf rows log)
 
 abbrev Inv-loop : tie.InvT-loop
-Inv-loop table operations log rows after word none i₀ i = Searching (rowsFrom table 0 operations) log rows after word none i
+Inv-loop table stride operations log rows after word none i₀ i = Searching (rowsFrom stride table 0 operations) log rows after word none i
 
 abbrev μ-loop : tie.MeasureT-loop
-μ-loop table operations log rows after word none i₀ i = rows - i
+μ-loop table stride operations log rows after word none i₀ i = rows - i
 
 loop-holds : tie.Need-loop-holds Inv-loop μ-loop
 loop-holds c = record { within = search needs; kept = refl }

@@ -5,22 +5,23 @@ use mathlib.Core.Path.{_≡_}
 use mathlib.Core.Bool.{Bool, false}
 use mathlib.Core.List.{List}
 use native.Mathlib.Omega.{arith}
-use native.Mathlib.Nat.{zero-add}
 use lib.Dec.{eqb}
 use lib.ListN.{getD}
 use borrow.Author.Needs.{needs}
 use borrow.Author.Tests.{le-ltb, lt-ltb, ne-eqb}
+use Rattle.runfile.specs.Layout.{rowOfTable}
+use Rattle.runfile.specs.Lines.{has-row}
 use Rattle.runfile.specs.Operations.{rowsFrom}
-use Rattle.runfile.specs.OperationLaws.{names-there, names-past}
+use Rattle.runfile.specs.OperationLaws.{names-table, names-past}
 use Rattle.rows.specs.Entries.{isTrue}
 use Rattle.rows.specs.Log.{isSwap}
 use Rattle.rows.specs.Buffers.{entryAt}
 use Rattle.rows.proofs.log.is_swap_after.Statement.{statement}
 use Rattle.rows.proofs.log.is_swap_after.Tie as tie
 
-module _ (table log : List ℕ) (n w a k : ℕ) where
+module _ (stride : ℕ) (table log : List ℕ) (n w a k : ℕ) where
   abbrev found : Bool
-  found = isSwap (rowsFrom table 0 n) w a (entryAt log k)
+  found = isSwap (rowsFrom stride table 0 n) w a (entryAt log k)
 
   lost : (getD log (k + 3) 0 ≡ 1 → ⊥) → false ≡ found
   unfolding isSwap isTrue entryAt
@@ -34,11 +35,11 @@ module _ (table log : List ℕ) (n w a k : ℕ) where
   module _ (won : getD log (k + 3) 0 ≡ 1) (later : a < getD log k 0) where
     past : n ≤ getD log (k + 2) 0 → false ≡ found
     unfolding isSwap isTrue entryAt
-    past h = rw (won, lt-ltb a (getD log k 0) later, names-past table 0 n (getD log (k + 2) 0) w h)
+    past h = rw (won, lt-ltb a (getD log k 0) later, names-past stride table 0 n (getD log (k + 2) 0) w h)
 
-    there : getD log (k + 2) 0 < n → eqb (getD table (getD log (k + 2) 0 * 8 + 2) 0) w ≡ found
+    there : getD log (k + 2) 0 < n → (x : ℕ) → x ≡ rowOfTable stride table (getD log (k + 2) 0) .word → eqb x w ≡ found
     unfolding isSwap isTrue entryAt
-    there h = rw (won, lt-ltb a (getD log k 0) later, names-there table 0 n (getD log (k + 2) 0) w h, zero-add (getD log (k + 2) 0 * 8))
+    there h x is = rw (won, lt-ltb a (getD log k 0) later, names-table stride table n (getD log (k + 2) 0) w h, is)
 
 mul-at : tie.Need-mul-at
 mul-at c = search needs
@@ -53,7 +54,7 @@ shared-slice-read-if1 : tie.Need-shared-slice-read-if1
 shared-slice-read-if1 c = search needs
 
 returns : tie.Need-returns
-returns c = lost _ _ _ _ _ _ (c .if1 .taken)
+returns c = lost _ _ _ _ _ _ _ (c .if1 .taken)
 
 mul-if2 : tie.Need-mul-if2
 mul-if2 c = search needs
@@ -62,7 +63,7 @@ shared-slice-read-if2 : tie.Need-shared-slice-read-if2
 shared-slice-read-if2 c = search needs
 
 returns-2 : tie.Need-returns-2
-returns-2 c = early _ _ _ _ _ _ (c .before .before .if1 .left) (omega arith)
+returns-2 c = early _ _ _ _ _ _ _ (c .before .before .if1 .left) (omega arith)
 
 add-row : tie.Need-add-row
 add-row c = search needs
@@ -74,22 +75,18 @@ shared-slice-read-row : tie.Need-shared-slice-read-row
 shared-slice-read-row c = search needs
 
 cast-row : tie.Need-cast-row
-cast-row c = omega (arith, c .shared-slice-known3 .given (c .before .before .before .before .before .args .i * 5 + 2))
+cast-row c = omega (arith, c .shared-slice-known5 .given (c .before .before .before .before .before .before .before .args .i * 5 + 2))
 
 returns-3 : tie.Need-returns-3
-returns-3 c = past _ _ _ _ _ _ (c .before .before .before .before .if1 .left) (omega (arith, c .before .before .if2 .left)) (c .if3 .taken)
+returns-3 c = past _ _ _ _ _ _ _ (c .before .before .before .before .if1 .left) (omega (arith, c .before .before .if2 .left)) (c .if3 .taken)
 
-mul-result : tie.Need-mul-result
-mul-result c = search needs
-
-add-result : tie.Need-add-result
-add-result c = search needs
-
-shared-slice-read-result : tie.Need-shared-slice-read-result
-shared-slice-read-result c = search needs
+word-of-row-requires : tie.Need-word-of-row-requires
+word-of-row-requires c κs =
+    let pre = c .before .before .before .before .before .before .before .before .pre in
+    has-row _ _ _ _ (pre .0) (pre .1) (c .if3 .left)
 
 returns-4 : tie.Need-returns-4
-returns-4 c = let d = c .before in there _ _ _ _ _ _ (d .before .before .before .before .if1 .left) (omega (arith, d .before .before .if2 .left)) (d .if3 .left)
+returns-4 c = let d = c .before in there _ _ _ _ _ _ _ (d .before .before .before .before .if1 .left) (omega (arith, d .before .before .if2 .left)) (d .if3 .left) _ (c .word-of-row .ensures)
 
 pub is-swap-after-spec : {M : Type 1} → statement M
 is-swap-after-spec =
@@ -108,7 +105,5 @@ is-swap-after-spec =
     shared-slice-read-row
     cast-row
     returns-3
-    mul-result
-    add-result
-    shared-slice-read-result
+    word-of-row-requires
     returns-4)

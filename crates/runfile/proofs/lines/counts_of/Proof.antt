@@ -3,8 +3,9 @@
 use Rattle.runfile.proofs.Tables.{zeros, few, counted-next}
 use denote.Ref.{now}
 use native.Mathlib.Omega.{arith}
-use mathlib.Core.Path.{_≡_, refl}
-use Rattle.runfile.specs.Lines.{Counted}
+use mathlib.Core.Path.{_≡_, refl, _∙_}
+use Rattle.runfile.specs.Layout.{rowOfTable}
+use Rattle.runfile.specs.Lines.{Counted, has-row}
 use Rattle.runfile.specs.Operations.{rowsFrom, count}
 use Prim.Native.Nat.{_≤_, _<_, _-_}
 use borrow.Author.Needs.{needs}
@@ -12,24 +13,30 @@ use Rattle.runfile.proofs.lines.counts_of.Statement.{statement}
 use Rattle.runfile.proofs.lines.counts_of.Tie as tie
 
 abbrev Inv-loop : tie.InvT-loop
-Inv-loop table rows counts₀ k₀ counts k = (k ≤ rows) × Counted (rowsFrom table 0 k) counts
+Inv-loop table stride rows counts₀ k₀ counts k = (k ≤ rows) × Counted (rowsFrom stride table 0 k) counts
 
 abbrev μ-loop : tie.MeasureT-loop
-μ-loop table rows counts₀ k₀ counts k = rows - k
+μ-loop table stride rows counts₀ k₀ counts k = rows - k
+
+-- what is read is the row's process
+named : (c : tie.After-index8 Inv-loop μ-loop)
+    → let l = c .before .before .before in let a = l .before .before .args in
+    c .index8 .result ≡ rowOfTable (a .stride) (now (a .table)) (l .loop .k) .process
+named c = c .index8 .ensures .0 ∙ c .before .process-of-row .ensures
 
 -- a row's process is an index of the table
 small : (c : tie.After-index8 Inv-loop μ-loop) → c .index8 .result < 16
-small c = let l = c .before .before .before in rw (c .index8 .ensures .0) (l .before .before .pre .processes (l .loop .k) (c .before .before .loop-test .taken))
+small c = let l = c .before .before .before in rw (named c) (l .before .before .pre .processes (l .loop .k) (c .before .before .loop-test .taken))
 
 loop-holds : tie.Need-loop-holds Inv-loop μ-loop
 unfolding count rowsFrom
 loop-holds c = (search needs, record { size = refl; each = λ p l. zeros 16 p })
 
-mul-index8 : tie.Need-mul-index8 Inv-loop μ-loop
-mul-index8 c = search needs
-
-shared-slice-read-index8 : tie.Need-shared-slice-read-index8 Inv-loop μ-loop
-shared-slice-read-index8 c = search needs
+process-of-row-requires : tie.Need-process-of-row-requires Inv-loop μ-loop
+process-of-row-requires c κs = let l = c .before in
+    let a = l .before .before .args in
+    let h = l .before .before .pre in
+    has-row (a .stride) (now (a .table)) (a .rows) (l .loop .k) (h .size) (h .whole) (c .loop-test .taken)
 
 index8-requires : tie.Need-index8-requires Inv-loop μ-loop
 index8-requires c κs = search needs
@@ -42,7 +49,7 @@ array-read-counts c = small c
 
 add-counts : tie.Need-add-counts Inv-loop μ-loop
 add-counts c = let l = c .before .before .before in
-    let f = few (now (l .before .before .args .table)) (l .loop .k) (l .loop .counts) (l .loop .inv .1) (c .index8 .result) (c .index8 .ensures .0) (small c) in
+    let f = few (l .before .before .args .stride) (now (l .before .before .args .table)) (l .loop .k) (l .loop .counts) (l .loop .inv .1) (c .index8 .result) (named c) (small c) in
     omega arith
 
 mul-counts-2 : tie.Need-mul-counts-2 Inv-loop μ-loop
@@ -59,7 +66,7 @@ loop-less c = search needs
 
 loop-again : tie.Need-loop-again Inv-loop μ-loop
 loop-again c = let l = c .before .before .before in
-    (search needs, counted-next (now (l .before .before .args .table)) (l .loop .k) (l .loop .counts) (l .loop .inv .1) (c .index8 .result) (c .index8 .ensures .0) (small c))
+    (search needs, counted-next (l .before .before .args .stride) (now (l .before .before .args .table)) (l .loop .k) (l .loop .counts) (l .loop .inv .1) (c .index8 .result) (named c) (small c))
 
 returns : tie.Need-returns Inv-loop μ-loop
 returns c = let l = c .before in
@@ -73,8 +80,7 @@ counts-of-spec =
     Inv-loop
     μ-loop
     loop-holds
-    mul-index8
-    shared-slice-read-index8
+    process-of-row-requires
     index8-requires
     mul-counts
     array-read-counts

@@ -3,8 +3,11 @@
 use Rattle.runfile.proofs.First.{From, begin, hit, miss, over}
 use Rattle.runfile.specs.Refusals.{firstOffender, firstRow, same}
 use Rattle.runfile.specs.Layout.{rowPlace}
+use Rattle.runfile.specs.Format.{within}
 use denote.Ref.{now}
-use Prim.Native.Nat.{ℕ, _≤_, _-_}
+use lib.ListN.{length}
+use native.Mathlib.Omega.{arith}
+use Prim.Native.Nat.{ℕ, _+_, _≤_, _-_}
 use mathlib.Core.List.{List}
 use mathlib.Core.Path.{_≡_, sym, _∙_}
 use borrow.Author.Needs.{needs}
@@ -12,32 +15,43 @@ use Rattle.runfile.proofs.offends.first_same.Statement.{statement}
 use Rattle.runfile.proofs.offends.first_same.Tie as tie
 
 abbrev Inv-loop : tie.InvT-loop
-Inv-loop file start rows k₀ k = (k ≤ rows) × (From (rowPlace start) (same file start) rows k ≡ firstOffender (rowPlace start) (same file start) 0 rows)
+Inv-loop file start stride rows k₀ k = (k ≤ rows) × (From (rowPlace stride start) (same stride file start) rows k ≡ firstOffender (rowPlace stride start) (same stride file start) 0 rows)
 
 abbrev μ-loop : tie.MeasureT-loop
-μ-loop file start rows k₀ k = rows - k
+μ-loop file start stride rows k₀ k = rows - k
+
+-- row k is in the file
+fits : (c : tie.In-loop Inv-loop μ-loop)
+    → let l = c .before in let a = l .before .before .args in
+    rowPlace (a .stride) (a .start) (l .loop .k) + a .stride ≤ length (now (a .file))
+fits c = let l = c .before in
+    let a = l .before .before .args in
+    let stride : ℕ = a .stride in
+    let w = within stride (a .start) (l .loop .k) (a .rows) (c .loop-test .taken) in
+    let p = l .before .before .pre .1 in
+    omega arith
 
 loop-holds : tie.Need-loop-holds Inv-loop μ-loop
 loop-holds c = let a = c .before .args in
-    let file : List ℕ = now (a .file) in let start : ℕ = a .start in
-    (search needs, begin (rowPlace start) (same file start) (a .rows))
+    let file : List ℕ = now (a .file) in let start : ℕ = a .start in let stride : ℕ = a .stride in
+    (search needs, begin (rowPlace stride start) (same stride file start) (a .rows))
 
 mul-at : tie.Need-mul-at Inv-loop μ-loop
-mul-at c = search needs
+mul-at c = let w = fits c in omega arith
 
 add-at : tie.Need-add-at Inv-loop μ-loop
-add-at c = search needs
+add-at c = let w = fits c in omega arith
 
 is-same-requires : tie.Need-is-same-requires Inv-loop μ-loop
-is-same-requires c κs = search needs
+is-same-requires c κs = (c .before .before .before .pre .0, fits c)
 
 returns : tie.Need-returns Inv-loop μ-loop
 unfolding firstRow
 returns c = let m = c .before in
     let l = m .before .before in
     let a = l .before .before .args in
-    let file : List ℕ = now (a .file) in let start : ℕ = a .start in
-    hit (rowPlace start) (same file start) (a .rows) (l .loop .k) _ (m .before .loop-test .taken) (sym (m .is-same .ensures) ∙ c .if1 .taken) (l .loop .inv .1)
+    let file : List ℕ = now (a .file) in let start : ℕ = a .start in let stride : ℕ = a .stride in
+    hit (rowPlace stride start) (same stride file start) (a .rows) (l .loop .k) _ (m .before .loop-test .taken) (sym (m .is-same .ensures) ∙ c .if1 .taken) (l .loop .inv .1)
 
 add-k : tie.Need-add-k Inv-loop μ-loop
 add-k c = search needs
@@ -49,15 +63,15 @@ loop-again : tie.Need-loop-again Inv-loop μ-loop
 loop-again c = let m = c .before in
     let l = m .before .before in
     let a = l .before .before .args in
-    let file : List ℕ = now (a .file) in let start : ℕ = a .start in
-    (search needs, miss (rowPlace start) (same file start) (a .rows) (l .loop .k) _ (m .before .loop-test .taken) (sym (m .is-same .ensures) ∙ c .if1 .left) (l .loop .inv .1))
+    let file : List ℕ = now (a .file) in let start : ℕ = a .start in let stride : ℕ = a .stride in
+    (search needs, miss (rowPlace stride start) (same stride file start) (a .rows) (l .loop .k) _ (m .before .loop-test .taken) (sym (m .is-same .ensures) ∙ c .if1 .left) (l .loop .inv .1))
 
 returns-2 : tie.Need-returns-2 Inv-loop μ-loop
 unfolding firstRow
 returns-2 c = let l = c .before in
     let a = l .before .before .args in
-    let file : List ℕ = now (a .file) in let start : ℕ = a .start in
-    over (rowPlace start) (same file start) (a .rows) (l .loop .k) _ (c .loop-test .left) (l .loop .inv .1)
+    let file : List ℕ = now (a .file) in let start : ℕ = a .start in let stride : ℕ = a .stride in
+    over (rowPlace stride start) (same stride file start) (a .rows) (l .loop .k) _ (c .loop-test .left) (l .loop .inv .1)
 
 pub first-same-spec : {M : Type 1} → statement M
 first-same-spec =

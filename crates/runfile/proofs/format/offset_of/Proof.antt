@@ -1,9 +1,8 @@
 -- `offset_of` meets its contract: the match has the offset of each field.
 -- Assumes nothing.
-use native.Mathlib.Omega.{arith}
 use borrow.Author.Needs.{needs}
-use Rattle.runfile.proofs.offends.offset_of.Statement.{statement}
-use Rattle.runfile.proofs.offends.offset_of.Tie as tie
+use Rattle.runfile.proofs.format.offset_of.Statement.{statement}
+use Rattle.runfile.proofs.format.offset_of.Tie as tie
 
 enum-told : tie.Need-enum-told
 enum-told c = search needs
@@ -23,23 +22,26 @@ enum-told-5 c = search needs
 enum-told-6 : tie.Need-enum-told-6
 enum-told-6 c = search needs
 
+new-place-requires : tie.Need-new-place-requires
+new-place-requires c κs = search needs
+
 returns : tie.Need-returns
-returns c = (simp (c .enum-told .given .1), omega arith)
+returns c = search needs
 
 returns-2 : tie.Need-returns-2
-returns-2 c = (simp (c .enum-told2 .given .1), omega arith)
+returns-2 c = search needs
 
 returns-3 : tie.Need-returns-3
-returns-3 c = (simp (c .enum-told3 .given .1), omega arith)
+returns-3 c = search needs
 
 returns-4 : tie.Need-returns-4
-returns-4 c = (simp (c .enum-told4 .given .1), omega arith)
+returns-4 c = search needs
 
 returns-5 : tie.Need-returns-5
-returns-5 c = (simp (c .enum-told5 .given .1), omega arith)
+returns-5 c = search needs
 
 returns-6 : tie.Need-returns-6
-returns-6 c = (simp (c .enum-told6 .given .1), omega arith)
+returns-6 c = (simp (c .new-place .ensures .0, c .before .enum-told6 .given .1), search needs)
 
 pub offset-of-spec : {M : Type 1} → statement M
 offset-of-spec =
@@ -51,6 +53,7 @@ offset-of-spec =
     enum-told-4
     enum-told-5
     enum-told-6
+    new-place-requires
     returns
     returns-2
     returns-3

@@ -1,0 +1,20 @@
+-- `process_of_row` meets its contract: it reads the row's first byte.
+-- Assumes nothing.
+use Rattle.runfile.specs.Layout.{rowAt}
+use mathlib.Core.Path.{refl}
+use borrow.Author.Needs.{needs}
+use Rattle.runfile.proofs.read.process_of_row.Statement.{statement}
+use Rattle.runfile.proofs.read.process_of_row.Tie as tie
+
+mul-at : tie.Need-mul-at
+mul-at c = search needs
+
+shared-slice-read-result : tie.Need-shared-slice-read-result
+shared-slice-read-result c = search needs
+
+returns : tie.Need-returns
+unfolding rowAt
+returns c = refl
+
+pub process-of-row-spec : {M : Type 1} → statement M
+process-of-row-spec = tie.close (tie.spec mul-at shared-slice-read-result returns)

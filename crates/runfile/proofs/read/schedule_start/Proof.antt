@@ -1,0 +1,37 @@
+-- `schedule_start` meets its contract: the products of counts and sizes are small.
+-- Assumes nothing.
+use Rattle.runfile.proofs.Sizes.{rows-fit}
+use native.Mathlib.Omega.{arith}
+use borrow.Author.Needs.{needs}
+use Rattle.runfile.proofs.read.schedule_start.Statement.{statement}
+use Rattle.runfile.proofs.read.schedule_start.Tie as tie
+
+rows-start-requires : tie.Need-rows-start-requires
+rows-start-requires c κs = search needs
+
+index16-requires : tie.Need-index16-requires
+index16-requires c κs = search needs
+
+stride-of-requires : tie.Need-stride-of-requires
+stride-of-requires c κs = search needs
+
+mul-result : tie.Need-mul-result
+mul-result c = let p = rows-fit (c .before .index16 .result) (c .stride-of .result) (c .before .index16 .ensures .1) (c .stride-of .ensures .1) in omega arith
+
+add-result : tie.Need-add-result
+add-result c = let p = rows-fit (c .before .index16 .result) (c .stride-of .result) (c .before .index16 .ensures .1) (c .stride-of .ensures .1) in omega arith
+
+returns : tie.Need-returns
+returns c = let p = rows-fit (c .before .index16 .result) (c .stride-of .result) (c .before .index16 .ensures .1) (c .stride-of .ensures .1) in
+    (rw (c .stride-of .ensures .0, c .before .index16 .ensures .0, c .before .before .rows-start .ensures .0), omega arith)
+
+pub schedule-start-spec : {M : Type 1} → statement M
+schedule-start-spec =
+    tie.close
+    (tie.spec
+    rows-start-requires
+    index16-requires
+    stride-of-requires
+    mul-result
+    add-result
+    returns)
