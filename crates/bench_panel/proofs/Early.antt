@@ -1,5 +1,4 @@
 -- A key that was carried out came at a position of at most 1,023, since any other is refused by 21: so the next position is in reach.
--- Assumes nothing.
 use Prim.Native.Nat.{ℕ, _≤_}
 use mathlib.Core.Path.{_≡_, refl}
 use mathlib.Core.List.{List}

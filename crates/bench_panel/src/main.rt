@@ -122,7 +122,7 @@ fn put_outcome(
 ) -> usize {
     let outcome = pressed.outcome;
     match outcome {
-        Outcome::Refused(why, place) => lines::put_refusal(out, at, panel::number_of(why), place),
+        Outcome::Refused(why, place) => lines::put_refusal(out, at, panel::why_number(why), place),
         Outcome::Went { log: _, answers: _ } => {
             let after = pressed.bench;
             put_changes(out, at, byte, before, after, log, answers)
@@ -223,7 +223,7 @@ fn open(file: &[u8]) {
     match runfile::check(file, room) {
         Checked::Refused(why, place) => {
             let mut out = [0u8; 64];
-            let end = lines::put_refusal(&mut out, 0, runfile::number_of(why), place);
+            let end = lines::put_refusal(&mut out, 0, runfile::refusal_number(why), place);
             lines::write_text(&out, end);
         }
         Checked::Accepted(header) => {

@@ -28,14 +28,14 @@ fn stage_number(status: Status) -> u32 {
             read_at: _,
             tried_at: _,
             answer: _,
-        } => 4 + machine::number_of(stage) as u32,
+        } => 4 + machine::stage_number(stage) as u32,
     }
 }
 
 fn opened_number(opened: Opened) -> u32 {
     match opened {
-        Opened::Nothing => 0,
-        Opened::Row(k) => k as u32 + 1,
+        Opened::Closed => 0,
+        Opened::Open(k) => k as u32 + 1,
     }
 }
 
@@ -114,8 +114,8 @@ fn put_opened(out: &mut [u8], at: usize, q: usize, before: Opened, after: Opened
     }
     let next = put_front(out, at, q, b"row");
     match after {
-        Opened::Nothing => put_name(out, next, b" none\n"),
-        Opened::Row(k) => {
+        Opened::Closed => put_name(out, next, b" none\n"),
+        Opened::Open(k) => {
             let end = put_number(out, next, k as u64);
             put(out, end, b'\n')
         }
@@ -140,7 +140,7 @@ fn put_stored(out: &mut [u8], at: usize, q: usize, before: Maybe, after: Maybe) 
     }
     let next = put_front(out, at, q, b"stored");
     match after {
-        Maybe::Nothing => put_name(out, next, b" none\n"),
+        Maybe::None => put_name(out, next, b" none\n"),
         Maybe::Is(answer) => put_answer(out, next, answer),
     }
 }

@@ -1,6 +1,5 @@
 -- The twelve bench cases of document 01 as one table, and one statement, by computation: the definitions that `run`'s contract cites
 -- give on each file what the document says. Each start has the two bytes more of change request 1, and the positions behind it are moved.
--- Assumes nothing.
 use Prim.Native.Nat.{ℕ}
 use mathlib.Core.Path.{_≡_, refl}
 use mathlib.Core.List.{List, [], _∷_, _++_, map}

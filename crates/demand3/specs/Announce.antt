@@ -1,7 +1,6 @@
 -- The announcement of a row is three stores, and a process may be cut off between any two. Whatever is cut off: demand 3 holds, for it
 -- holds of every schedule (`demand3`); a process that is cut off wakes idle with no row open, and has the same row to announce; and a row is
 -- begun at one byte at most, and at exactly one if it has begun. For how many rows a process has begun never falls.
--- Assumes nothing.
 use Prim.Native.Nat.{ℕ, suc, _+_, _≤_, _<_}
 use mathlib.Core.Path.{_≡_, refl, sym, ap, subst}
 use mathlib.Core.Bool.{Bool, true, false, not, _&&_}
@@ -16,7 +15,7 @@ use Rattle.runfile.specs.declared.Row.{Row}
 use Rattle.runfile.specs.Operations.{first}
 use Rattle.runfile.specs.Actions.{action, named, crash as crashes, wake as wakes}
 use Rattle.word.specs.Word.{value}
-use Rattle.machine.specs.declared.Opened.the-variants.{Nothing as Closed}
+use Rattle.machine.specs.declared.Opened.the-variants.{Closed}
 use Rattle.machine.specs.declared.Process.{Process}
 use Rattle.machine.specs.declared.Status.{Status}
 use Rattle.machine.specs.declared.Status.the-variants.{Down, Idle, N2, N3, Busy}

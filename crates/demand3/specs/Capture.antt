@@ -1,7 +1,6 @@
 -- Detectability, said plainly, of whatever meets demand 3; and the mission's capture, for every schedule: of workers that all move a word from
 -- the same old to the same new, at most one is told true, and it is one that made the move itself. For by the replay the first true leaves
 -- new, and new is not old.
--- Assumes nothing.
 use Prim.Native.Nat.{ℕ, _+_, _≤_, _<_}
 use mathlib.Core.Path.{_≡_, refl, sym, _∙_, ap}
 use mathlib.Core.Bool.{Bool, true, false, cond}
@@ -17,7 +16,7 @@ use Rattle.word.specs.Word.{value}
 use Rattle.rows.specs.declared.Entry.{Entry}
 use Rattle.rows.specs.Entries.{said, isTrue}
 use Rattle.machine.specs.declared.Answer.the-variants.{True}
-use Rattle.machine.specs.declared.Maybe.the-variants.{Nothing as None, Is}
+use Rattle.machine.specs.declared.Maybe.the-variants.{None, Is}
 use Rattle.machine.specs.Machine.{begin}
 use Rattle.replay.specs.Plain.{answerOf, leaves, Replayed}
 use Rattle.replay.specs.Lists.{All}

@@ -1,6 +1,5 @@
 -- Demand 3 for all rows that pass the refusals, all start words and all schedules: what the invariant, the count of swaps and the order in time
 -- come to, row number by row number.
--- Assumes nothing.
 use Prim.Native.Nat.{ℕ, _+_, _≤_, _<_}
 use mathlib.Core.Path.{_≡_, refl, sym, _∙_, ap, subst}
 use mathlib.Core.List.{List, [], _∷_, _++_, map}
@@ -15,8 +14,8 @@ use Rattle.runfile.specs.Operations.{first, count}
 use Rattle.word.specs.Word.{value}
 use Rattle.rows.specs.declared.Entry.{Entry}
 use Rattle.machine.specs.declared.Maybe.{Maybe}
-use Rattle.machine.specs.declared.Maybe.the-variants.{Nothing as None}
-use Rattle.machine.specs.declared.Opened.the-variants.{Row as Open}
+use Rattle.machine.specs.declared.Maybe.the-variants.{None}
+use Rattle.machine.specs.declared.Opened.the-variants.{Open}
 use Rattle.machine.specs.Machine.{State, procAt, after, begin}
 use Rattle.machine.specs.Laws.{after-join}
 use Rattle.replay.specs.Replay.{replayed}

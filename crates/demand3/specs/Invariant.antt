@@ -1,5 +1,4 @@
 -- The invariant of a state at time t.
--- Assumes nothing.
 use Prim.Native.Nat.{ℕ, suc, _+_, _≤_, _<_}
 use mathlib.Core.Path.{_≡_}
 use mathlib.Core.Bool.{Bool, true, false, not}
@@ -14,8 +13,8 @@ use Rattle.machine.specs.declared.Stage.the-variants.{A1, A2, A3, A4, A5, A6, V
 use Rattle.machine.specs.declared.Answer.{Answer}
 use Rattle.machine.specs.declared.Answer.the-variants.{False, True}
 use Rattle.machine.specs.declared.Maybe.{Maybe}
-use Rattle.machine.specs.declared.Maybe.the-variants.{Nothing as None, Is}
-use Rattle.machine.specs.declared.Opened.the-variants.{Nothing as Closed, Row as Open}
+use Rattle.machine.specs.declared.Maybe.the-variants.{None, Is}
+use Rattle.machine.specs.declared.Opened.the-variants.{Closed, Open}
 use Rattle.machine.specs.declared.Status.{Status}
 use Rattle.machine.specs.declared.Status.the-variants.{Down, Idle, N2, N3, Busy}
 use Rattle.word.specs.Word.{value, bit, swapped}

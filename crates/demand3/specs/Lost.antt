@@ -1,6 +1,5 @@
 -- What a process at A5, A6 or V5 has: at A5 a lost swap has the swap that beat it in the log; and at none of them is the answer missing.
 -- Both are read off the invariant's lines for these stages.
--- Assumes nothing.
 use Prim.Native.Nat.{ℕ, _+_, _<_}
 use mathlib.Core.Path.{_≡_, sym, _∙_, subst}
 use mathlib.Core.Bool.{Bool, true≢false}
@@ -17,8 +16,8 @@ use Rattle.machine.specs.declared.Process.{Process}
 use Rattle.machine.specs.declared.Answer.{Answer}
 use Rattle.machine.specs.declared.Answer.the-variants.{False, True}
 use Rattle.machine.specs.declared.Maybe.{Maybe}
-use Rattle.machine.specs.declared.Maybe.the-variants.{Nothing as None, Is}
-use Rattle.machine.specs.declared.Opened.the-variants.{Row as Open}
+use Rattle.machine.specs.declared.Maybe.the-variants.{None, Is}
+use Rattle.machine.specs.declared.Opened.the-variants.{Open}
 use Rattle.machine.specs.declared.Stage.{Stage}
 use Rattle.machine.specs.declared.Stage.the-variants.{A5, A6, V5}
 use Rattle.machine.specs.declared.Status.the-variants.{Busy}

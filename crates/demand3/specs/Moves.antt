@@ -1,6 +1,5 @@
 -- What one byte does to the words and to the log, in a state for which the invariant holds: nothing, or what is allowed to the process that
 -- it names, at that process's open row.
--- Assumes nothing.
 use Prim.Native.Nat.{ℕ, _+_, _≤_, _<_}
 use mathlib.Core.Path.{_≡_, refl, sym, ap, subst}
 use mathlib.Core.Bool.{Bool, true, false, cond}
@@ -11,10 +10,10 @@ use borrow.Author.Tests.{ltb-true, ltb-false}
 use Rattle.runfile.specs.declared.Row.{Row}
 use Rattle.runfile.specs.Operations.{rowNumbered, first, count}
 use Rattle.runfile.specs.Actions.{Action, step as steps, crash as crashes, wake as wakes, crashAll as crashesAll, none as idles, action, named}
-use Rattle.machine.specs.declared.Opened.the-variants.{Row as Open}
+use Rattle.machine.specs.declared.Opened.the-variants.{Open}
 use Rattle.machine.specs.Turn.{Still, Quiet}
 use Rattle.machine.specs.Records.{fresh, with-stored}
-use Rattle.machine.specs.declared.Maybe.the-variants.{Nothing as None}
+use Rattle.machine.specs.declared.Maybe.the-variants.{None}
 use Rattle.machine.specs.declared.Status.the-variants.{N2}
 use Rattle.machine.specs.Steps.{stepTurn}
 use Rattle.machine.specs.Machine.{State, Effect, Move, moveOf, wordsAfter, logAfter, procAt, apply, applied, turn, act, step}

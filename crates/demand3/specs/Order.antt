@@ -1,7 +1,6 @@
 -- Real-time order: row i of process p had ended when row j of process q had not begun. From then on every entry of the later row has a
 -- position at or after that time (this is the invariant, with a `Late` of its own), and the entry of the earlier row is from before. The log
 -- is ordered by position.
--- Assumes nothing.
 use Prim.Native.Nat.{ℕ, suc, _+_, _≤_, _<_}
 use mathlib.Core.Path.{_≡_, refl, sym, _∙_, ap}
 use mathlib.Core.Bool.{Bool, true, false, cond}
@@ -14,7 +13,7 @@ use Rattle.runfile.specs.declared.Row.{Row}
 use Rattle.runfile.specs.Operations.{rowNumbered, first, count}
 use Rattle.word.specs.Word.{value}
 use Rattle.rows.specs.declared.Entry.{Entry}
-use Rattle.machine.specs.declared.Opened.the-variants.{Row as Open}
+use Rattle.machine.specs.declared.Opened.the-variants.{Open}
 use Rattle.machine.specs.Machine.{State, procAt, after, begin}
 use Rattle.replay.specs.Lists.{All, all-map, all-left, all-right, all-both, keep, keep-skip, Found, keep-found}
 use Rattle.replay.specs.Logs.{Ordered, Sorted, sorted-before}

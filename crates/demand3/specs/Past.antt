@@ -1,6 +1,5 @@
 -- What has ended stays as it is: an operation that has been begun and is no longer open never opens again, so the log rows that it has, or
 -- has not, stay whatever the bytes are; for an effect is at the open row of a process, and no two processes have the same row.
--- Assumes nothing.
 use Prim.Native.Nat.{ℕ, suc, _+_, _≤_, _<_}
 use mathlib.Core.Path.{_≡_, refl, sym, _∙_, ap, subst}
 use mathlib.Core.Bool.{Bool, true, false}
@@ -13,7 +12,7 @@ use Rattle.runfile.specs.declared.Row.{Row}
 use Rattle.runfile.specs.Operations.{rowNumbered, first, count}
 use Rattle.runfile.specs.Actions.{named}
 use Rattle.machine.specs.declared.Process.{Process}
-use Rattle.machine.specs.declared.Opened.the-variants.{Row as Open}
+use Rattle.machine.specs.declared.Opened.the-variants.{Open}
 use Rattle.machine.specs.declared.Status.{Status}
 use Rattle.machine.specs.declared.Status.the-variants.{Down, Idle, N2, N3, Busy}
 use Rattle.machine.specs.Records.{waked}

@@ -1,5 +1,4 @@
 -- The invariant holds at first, and each byte keeps it.
--- Assumes nothing.
 use Prim.Native.Nat.{ℕ, zero, suc, _+_, _≤_, _<_, _/_, _%_}
 use mathlib.Core.Path.{_≡_, refl, sym, _∙_, ap, subst}
 use mathlib.Core.Bool.{Bool, true, false, cond}
@@ -10,9 +9,9 @@ use Rattle.machine.specs.Machine.{Effect, quiet, swaps, logs, replies, Move, St
 use Rattle.runfile.specs.declared.Row.{Row}
 use Rattle.machine.specs.declared.Process.{Process}
 use Rattle.machine.specs.declared.Stage.the-variants.{V1}
-use Rattle.machine.specs.declared.Maybe.the-variants.{Nothing as None}
+use Rattle.machine.specs.declared.Maybe.the-variants.{None}
 use Rattle.machine.specs.declared.Opened.{Opened}
-use Rattle.machine.specs.declared.Opened.the-variants.{Nothing as Closed, Row as Open}
+use Rattle.machine.specs.declared.Opened.the-variants.{Closed, Open}
 use Rattle.machine.specs.declared.Status.{Status}
 use Rattle.machine.specs.declared.Status.the-variants.{Down, Idle, N2, N3, Busy}
 use Rattle.word.specs.Word.{value}

@@ -4,7 +4,6 @@
 --
 -- An operation is a row of the file, known by its number k. That it has begun, has ended, has swapped or has stored its answer is said of the
 -- states that the machine goes through; the log is not asked.
--- Assumes nothing.
 use Prim.Native.Nat.{ℕ, suc, _+_, _≤_, _<_}
 use mathlib.Core.Path.{_≡_}
 use mathlib.Core.Bool.{Bool, true, false, not, _&&_}
@@ -21,9 +20,9 @@ use Rattle.rows.specs.Log.{isSwap, firstSwap}
 use Rattle.machine.specs.declared.Answer.{Answer}
 use Rattle.machine.specs.declared.Answer.the-variants.{False, True, Value}
 use Rattle.machine.specs.declared.Maybe.{Maybe}
-use Rattle.machine.specs.declared.Maybe.the-variants.{Nothing as None, Is}
+use Rattle.machine.specs.declared.Maybe.the-variants.{None, Is}
 use Rattle.machine.specs.declared.Opened.{Opened}
-use Rattle.machine.specs.declared.Opened.the-variants.{Nothing as Closed, Row as Open}
+use Rattle.machine.specs.declared.Opened.the-variants.{Closed, Open}
 use Rattle.machine.specs.declared.Stage.the-variants.{A5}
 use Rattle.machine.specs.declared.Status.the-variants.{Busy}
 use Rattle.machine.specs.Steps.{spoken}

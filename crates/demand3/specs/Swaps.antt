@@ -1,6 +1,5 @@
 -- The log has as many trues of a row as the row has swapped. Each byte that changes the row's word while the row is open is a swap of that
 -- row, and puts one true of it into the log; no other byte does.
--- Assumes nothing.
 use Prim.Native.Nat.{ℕ, suc, _+_, _^_, _≤_, _<_}
 use mathlib.Core.Path.{_≡_, refl, sym, _∙_, ap, subst}
 use mathlib.Core.Bool.{Bool, true, false, not, _&&_, true≢false}
@@ -20,7 +19,7 @@ use Rattle.rows.specs.declared.Entry.{Entry}
 use Rattle.rows.specs.Entries.{said, isTrue}
 use Rattle.machine.specs.declared.Answer.the-variants.{False, True, Value}
 use Rattle.machine.specs.declared.Maybe.{Maybe}
-use Rattle.machine.specs.declared.Maybe.the-variants.{Nothing as None, Is}
+use Rattle.machine.specs.declared.Maybe.the-variants.{None, Is}
 use Rattle.machine.specs.Steps.{spoken}
 use Rattle.machine.specs.Machine.{State, Effect, quiet, swaps, logs, replies, wordsAfter, logAfter, procAt, step, after}
 use Rattle.replay.specs.Lists.{keep, keep-join, keep-put-yes}

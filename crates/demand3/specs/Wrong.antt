@@ -1,6 +1,5 @@
 -- Three wrong machines, held against demand 3. Each differs from the machine in one rule, and each has a short run whose log, answers and words
 -- break the statement, by computation: so it is not a statement that any machine would meet.
--- Assumes nothing.
 use Prim.Native.Nat.{ℕ, suc, _+_, _<_}
 use mathlib.Core.Path.{_≡_, refl, sym, _∙_, ap, subst}
 use mathlib.Core.Bool.{cond, false}
@@ -16,8 +15,8 @@ use Rattle.rows.specs.Entries.{isTrue}
 use Rattle.rows.specs.Log.{onePast, place, insert, isSwap, firstSwap}
 use Rattle.machine.specs.declared.Answer.the-variants.{False}
 use Rattle.machine.specs.declared.Maybe.{Maybe}
-use Rattle.machine.specs.declared.Maybe.the-variants.{Nothing as None, Is}
-use Rattle.machine.specs.declared.Opened.the-variants.{Nothing as Closed}
+use Rattle.machine.specs.declared.Maybe.the-variants.{None, Is}
+use Rattle.machine.specs.declared.Opened.the-variants.{Closed}
 use Rattle.machine.specs.declared.Process.{Process}
 use Rattle.machine.specs.declared.Stage.the-variants.{A1, V4, V6}
 use Rattle.machine.specs.declared.Status.{Status}

@@ -102,7 +102,7 @@ pub fn put_outcome(
     answers: &[u32],
 ) -> usize {
     match outcome {
-        Outcome::Refused(why, place) => put_refusal(out, at, runfile::number_of(why), place),
+        Outcome::Refused(why, place) => put_refusal(out, at, runfile::refusal_number(why), place),
         Outcome::Ran {
             log: log_rows,
             answers: answer_rows,

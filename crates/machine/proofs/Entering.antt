@@ -1,5 +1,4 @@
 -- A5 on the log: nothing is entered, or one row is.
--- Assumes nothing.
 use mathlib.Core.Path.{_≡_, refl, sym, ap, ap₂, _∙_}
 use mathlib.Core.Bool.{Bool, true, false, cond}
 use mathlib.Core.List.{List}
@@ -17,7 +16,7 @@ use Rattle.rows.specs.BufferLaws.{length-rowsOf, rows-same}
 use Rattle.machine.specs.declared.Answer.{Answer}
 use Rattle.machine.specs.declared.Answer.the-variants.{False, True, Value}
 use Rattle.machine.specs.declared.Maybe.{Maybe}
-use Rattle.machine.specs.declared.Maybe.the-variants.{Nothing as None, Is}
+use Rattle.machine.specs.declared.Maybe.the-variants.{None, Is}
 use Rattle.machine.specs.Turn.{Loses, Logs}
 use Rattle.machine.specs.declared.Work.{Work}
 use Rattle.machine.specs.Records.{nobody}

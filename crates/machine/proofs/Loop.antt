@@ -1,6 +1,5 @@
 -- One turn of the loop over a part of a schedule, in the machine's terms: if the buffers and the records hold the state after i bytes, then
 -- what each way through the loop does makes them hold the state after i + 1. By the effect of the turn that the step came to.
--- Assumes nothing.
 use mathlib.Core.Path.{_≡_, refl, sym, ap, ap₂, subst, _∙_}
 use mathlib.Core.Bool.{Bool, true, false, cond, not}
 use mathlib.Core.Logic.{_≢_}
@@ -27,10 +26,10 @@ use Rattle.machine.specs.declared.Stage.{Stage}
 use Rattle.machine.specs.declared.Stage.the-variants.{A3, A4, A5, A6, V1, V3, V4, V5, V6}
 use Rattle.machine.specs.declared.Answer.the-variants.{False, True, Value}
 use Rattle.machine.specs.declared.Maybe.{Maybe}
-use Rattle.machine.specs.declared.Maybe.the-variants.{Nothing as None, Is}
+use Rattle.machine.specs.declared.Maybe.the-variants.{None, Is}
 use Rattle.machine.specs.declared.Status.{Status}
 use Rattle.machine.specs.declared.Status.the-variants.{Down, Idle, N2, N3, Busy}
-use Rattle.machine.specs.declared.Opened.the-variants.{Nothing as Closed, Row as Open}
+use Rattle.machine.specs.declared.Opened.the-variants.{Closed, Open}
 use Rattle.machine.specs.declared.Standing.{Standing}
 use Rattle.machine.specs.declared.Work.{Work}
 use Rattle.machine.specs.Turn.{Turn, Still, Quiet, Swaps, Logs, Loses, Replies}

@@ -1,5 +1,4 @@
 -- The machine: what a step comes to is carried out on words, records, log and answers; a byte; a schedule.
--- Assumes nothing.
 use Prim.Native.Nat.{ℕ, suc}
 use mathlib.Core.List.{List, [], _∷_, _++_, map}
 use lib.ListN.{getD, set, replicate}

@@ -1,6 +1,5 @@
 -- One byte, in the machine's own terms: the named process alone changes unless the byte is a crash of all; and "A step of a process that
 -- is down, a step of an idle one with no rows left, a crash of one that is down and a wake of one that is awake change nothing but the position."
--- Assumes nothing.
 use Prim.Native.Nat.{ℕ, zero, suc, _≤_, _<_}
 use mathlib.Core.Path.{_≡_, refl, sym, ap, _∙_}
 use mathlib.Core.List.{List, [], _∷_, map}

@@ -1,6 +1,5 @@
 -- No second answer meets the contract of a public function of this crate: each contract is an equation for each result and each buffer, and
 -- equations leave one answer.
--- Assumes nothing.
 use Prim.Native.Nat.{ℕ}
 use mathlib.Core.Path.{_≡_, sym, ap, _∙_}
 use mathlib.Core.List.{List}

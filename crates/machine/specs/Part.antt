@@ -1,5 +1,4 @@
 -- A part of a schedule run over lent buffers: the state that is lent, what is asked of it, and what is left.
--- Assumes nothing.
 use Prim.Native.Nat.{ℕ, _+_, _*_, _≤_, _<_}
 use mathlib.Core.Path.{_≡_}
 use mathlib.Core.Bool.{cond}
@@ -8,7 +7,7 @@ use lib.Dec.{eqb}
 use lib.ListN.{length, getD, take, drop}
 use Rattle.runfile.specs.declared.Row.{Row}
 use Rattle.runfile.specs.Layout.{rowOfTable}
-use Rattle.runfile.specs.Lines.{Lined}
+use Rattle.runfile.specs.Shares.{Lined}
 use Rattle.runfile.specs.Lawful.{LawfulByte}
 use Rattle.runfile.specs.Operations.{rowsFrom}
 use Rattle.word.specs.Word.{value}
@@ -16,7 +15,7 @@ use Rattle.rows.specs.declared.Entry.{Entry}
 use Rattle.rows.specs.Log.{firstSwap}
 use Rattle.rows.specs.Buffers.{rowsOf, flat, infront}
 use Rattle.machine.specs.declared.Maybe.{Maybe}
-use Rattle.machine.specs.declared.Maybe.the-variants.{Nothing as None}
+use Rattle.machine.specs.declared.Maybe.the-variants.{None}
 use Rattle.machine.specs.declared.Standing.{Standing}
 use Rattle.machine.specs.declared.Work.{Work}
 use Rattle.machine.specs.Records.{nobody}

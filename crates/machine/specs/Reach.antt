@@ -1,5 +1,4 @@
 -- What a step may reach: the open row in its table, the word that the row is on, and the rows of the log.
--- Assumes nothing.
 use Prim.Native.Nat.{ℕ, _+_, _*_, _≤_, _<_}
 use mathlib.Core.Path.{_≡_, sym}
 use mathlib.Core.List.{List}

@@ -1,7 +1,6 @@
 -- The process record: document 01, "At any moment a process is down, idle, or in the midst of work with its stage and the word it
 -- read, the positions of its A1 and A4, and the answer it is to store. All that is volatile. Kept through a crash: the open row, if
 -- any; the stored answer or none; the checkpoint (0 or 1); the kept bit; how many rows it has begun."
--- Assumes nothing.
 use Prim.Native.Nat.{ℕ, suc}
 use mathlib.Core.Path.{_≡_}
 use mathlib.Core.List.{List, _++_, map}
@@ -10,9 +9,9 @@ use mathlib.Core.Bool.{Bool, false}
 use Rattle.machine.specs.declared.Process.{Process}
 use Rattle.machine.specs.declared.Stage.the-variants.{A1, V1}
 use Rattle.machine.specs.declared.Maybe.{Maybe}
-use Rattle.machine.specs.declared.Maybe.the-variants.{Nothing as None}
+use Rattle.machine.specs.declared.Maybe.the-variants.{None}
 use Rattle.machine.specs.declared.Opened.{Opened}
-use Rattle.machine.specs.declared.Opened.the-variants.{Nothing as Closed, Row as Open}
+use Rattle.machine.specs.declared.Opened.the-variants.{Closed, Open}
 use Rattle.machine.specs.declared.Status.{Status}
 use Rattle.machine.specs.declared.Status.the-variants.{Down, Idle, N2, N3, Busy}
 

@@ -1,5 +1,4 @@
 -- What a step comes to: the record after it, and what is done besides.
--- Assumes nothing.
 use Prim.Native.Nat.{ℕ}
 use Rattle.machine.specs.declared.Process.{Process}
 use Rattle.machine.specs.declared.Answer.{Answer}

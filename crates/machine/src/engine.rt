@@ -10,12 +10,12 @@ use super::Status;
 use super::Work;
 use super::operation::after_read;
 use super::operation::enter;
-use super::operation::put_word;
+use super::operation::store_word;
 use super::operation::word_now;
 use super::records::busy;
 use super::records::crash_first;
-use super::records::number_of;
 use super::records::open_row;
+use super::records::stage_number;
 use super::records::start;
 use super::recovery::by_bit;
 use super::recovery::by_checkpoint;
@@ -64,7 +64,7 @@ pub fn run_bytes(
                     if process.begun < counts[at] {
                         processes[at] = Process {
                             status: Status::N2,
-                            stored: Maybe::Nothing,
+                            stored: Maybe::None,
                             ..process
                         };
                     }
@@ -92,7 +92,7 @@ pub fn run_bytes(
                     let opened = process.opened;
                     let row = open_row(opened);
                     let k = runfile::index16(row);
-                    let number = number_of(stage);
+                    let number = stage_number(stage);
                     match number {
                         0 => {
                             let operation = runfile::row_at(table, stride, k);
@@ -125,7 +125,7 @@ pub fn run_bytes(
                                 processes[at] = Process { status, ..process };
                                 let operation = runfile::row_at(table, stride, k);
                                 let new = word::swapped_of(me as u32, operation.new, seen);
-                                put_word(table, stride, k, words, new);
+                                store_word(table, stride, k, words, new);
                                 let won = entry_of(position as u32, me, row, yes);
                                 rows::insert_row(log, log_rows, won);
                                 log_rows += 1;
@@ -182,7 +182,7 @@ pub fn run_bytes(
                             let said = reply_of(number, answer, stored);
                             processes[at] = Process {
                                 status: Status::Idle,
-                                opened: Opened::Nothing,
+                                opened: Opened::Closed,
                                 ..process
                             };
                             let reply = entry_of(position as u32, me, row, said);
@@ -208,14 +208,14 @@ pub fn run_bytes(
                         let process = processes[at];
                         let opened = process.opened;
                         match opened {
-                            Opened::Nothing => {
+                            Opened::Closed => {
                                 processes[at] = Process {
                                     status: Status::Idle,
                                     ..process
                                 };
                             }
-                            Opened::Row(_) => {
-                                let status = busy(Stage::V1, 0, 0, 0, Maybe::Nothing);
+                            Opened::Open(_) => {
+                                let status = busy(Stage::V1, 0, 0, 0, Maybe::None);
                                 processes[at] = Process { status, ..process };
                             }
                         }

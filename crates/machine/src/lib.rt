@@ -9,8 +9,8 @@ mod said;
 
 pub use engine::run_bytes;
 pub use records::fresh;
-pub use records::number_of;
 pub use records::open_row;
+pub use records::stage_number;
 
 // The stages of an operation and of recovery.
 pub enum Stage {
@@ -36,14 +36,14 @@ pub enum Answer {
 
 // An answer, or none: the stored one, the one to store, and what is returned (none is fail).
 pub enum Maybe {
-    Nothing,
+    None,
     Is(Answer),
 }
 
 // The open row, by its number in the file.
 pub enum Opened {
-    Nothing,
-    Row(u16),
+    Closed,
+    Open(u16),
 }
 
 // All that is volatile stands here, so a crash cannot forget to clear any of it. A row is announced by three

@@ -26,7 +26,7 @@ pub fn word_now(table: &[u8], stride: usize, k: usize, words: &[u32]) -> u32
 }
 
 // Puts a number into the word that row k is on.
-pub fn put_word(table: &[u8], stride: usize, k: usize, words: &mut [u32], new: u32)
+pub fn store_word(table: &[u8], stride: usize, k: usize, words: &mut [u32], new: u32)
     requires { ⌜ Reach stride (now table) k (now words) ⌝ }
     ensures { λ _. ⌜ now (words .exit) ≡ set (now (words .entry)) (rowOfTable stride (now (table .entry)) k .word) new ⌝ }
 {
@@ -53,7 +53,7 @@ pub fn after_read(row: Row, word: u32, position: u16) -> Status
             word,
             read_at: position,
             tried_at: 0,
-            answer: Maybe::Nothing,
+            answer: Maybe::None,
         };
     }
     Status::Busy {

@@ -15,8 +15,8 @@ pub fn fresh() -> Process
 {
     Process {
         status: Status::Idle,
-        opened: Opened::Nothing,
-        stored: Maybe::Nothing,
+        opened: Opened::Closed,
+        stored: Maybe::None,
         checkpoint: false,
         kept: false,
         begun: 0,
@@ -24,7 +24,7 @@ pub fn fresh() -> Process
 }
 
 // The place of a stage in the list A1 to A6, V1 to V6.
-pub fn number_of(stage: Stage) -> u8
+pub fn stage_number(stage: Stage) -> u8
     ensures { λ r. ⌜ r ≡ stageNumber stage ⌝ }
 {
     match stage {
@@ -48,8 +48,8 @@ pub fn open_row(opened: Opened) -> u16
     ensures { λ r. ⌜ r ≡ records.rowOpen opened ⌝ }
 {
     match opened {
-        Opened::Nothing => 0,
-        Opened::Row(k) => k,
+        Opened::Closed => 0,
+        Opened::Open(k) => k,
     }
 }
 
@@ -72,8 +72,8 @@ pub fn start(process: Process, first: u16) -> Process
     ensures { λ r. ⌜ r ≡ records.started (first + process .begun) process ⌝ }
 {
     Process {
-        status: busy(Stage::A1, 0, 0, 0, Maybe::Nothing),
-        opened: Opened::Row(first + process.begun),
+        status: busy(Stage::A1, 0, 0, 0, Maybe::None),
+        opened: Opened::Open(first + process.begun),
         begun: process.begun + 1,
         ..process
     }

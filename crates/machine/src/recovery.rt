@@ -14,7 +14,7 @@ pub fn recovered_of(stored: Maybe) -> Stage
     ensures { λ r. ⌜ r ≡ recovered stored ⌝ }
 {
     match stored {
-        Maybe::Nothing => Stage::V2,
+        Maybe::None => Stage::V2,
         Maybe::Is(_) => Stage::V5,
     }
 }
@@ -45,6 +45,6 @@ pub fn reply_of(number: u8, answer: Maybe, stored: Maybe) -> Maybe
     match number {
         5 => answer,
         10 => stored,
-        _ => Maybe::Nothing,
+        _ => Maybe::None,
     }
 }

@@ -1,5 +1,4 @@
 -- A chain of tests that returns at the first that holds is the tests joined by "or".
--- Assumes nothing.
 use mathlib.Core.Path.{_≡_}
 use mathlib.Core.Bool.{Bool, true, false, _||_}
 

@@ -1,6 +1,5 @@
 -- `key` takes the lent records into a table of sixteen, presses the key there and lays the table back. What comes of it is what a key comes to
 -- over the list itself, however long the list is: no file has more than sixteen processes, and a byte looks at the first P records alone.
--- Assumes nothing.
 use Prim.Native.Nat.{ℕ, zero, suc, _+_, _≤_, _<_, min}
 use mathlib.Core.Path.{_≡_, refl, _∙_, ap}
 use mathlib.Core.Bool.{Bool, true, false, cond}

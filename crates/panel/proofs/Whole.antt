@@ -1,5 +1,4 @@
 -- A key, whole: refused, or run by the machine as a schedule of one byte, from what is lent to what the key comes to.
--- Assumes nothing.
 use Prim.Native.Nat.{ℕ, zero, suc, _-_, _<_}
 use mathlib.Core.Path.{_≡_, refl, sym, ap₂, subst}
 use mathlib.Core.List.{List, [], _∷_}

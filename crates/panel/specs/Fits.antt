@@ -1,5 +1,4 @@
 -- What holds of a key that is not refused: each test of the verdict has failed; and a record that can be is sane, so that it is able to step.
--- Assumes nothing.
 use Prim.Native.Nat.{ℕ, zero, suc, _+_, _*_, _≤_, _<_}
 use mathlib.Core.Path.{_≡_, refl, _∙_, ap, subst}
 use mathlib.Core.Bool.{Bool, true, false, cond, not, _||_, true≢false}
@@ -16,10 +15,10 @@ use Rattle.runfile.specs.declared.Checked.the-variants as checked
 use Rattle.runfile.specs.Operations.{tableOf, first, count}
 use Rattle.runfile.specs.Refusals.{badByte, refusalOf}
 use Rattle.runfile.specs.Lawful.{lawful, neither}
-use Rattle.runfile.specs.Lines.{last-fits}
+use Rattle.runfile.specs.Shares.{last-fits}
 use Rattle.machine.specs.declared.Process.{Process}
 use Rattle.machine.specs.declared.Opened.{Opened}
-use Rattle.machine.specs.declared.Opened.the-variants.{Nothing as Closed, Row as Open}
+use Rattle.machine.specs.declared.Opened.the-variants.{Closed, Open}
 use Rattle.machine.specs.declared.Status.{Status}
 use Rattle.machine.specs.declared.Status.the-variants.{Down, Idle, N2, N3, Busy}
 use Rattle.machine.specs.Records.{nobody, WorkOpen, Announcing}

@@ -1,6 +1,5 @@
 -- Change request 3: "the process not named left as it was unless the byte is F0"; "nothing is changed" by a refusal. What a key leaves alone, for
 -- every file, every list of records and all buffers: by what a byte leaves alone in the machine.
--- Assumes nothing.
 use Prim.Native.Nat.{ℕ, _+_, _*_, _-_, _≤_, _<_}
 use mathlib.Core.Path.{_≡_, refl, sym, _∙_, ap, ap₂, subst}
 use mathlib.Core.Bool.{Bool, true, false}

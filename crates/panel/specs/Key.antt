@@ -1,5 +1,4 @@
 -- What a key comes to over lent records.
--- Assumes nothing.
 use Prim.Native.Nat.{ℕ}
 use mathlib.Core.List.{List}
 use lib.ListN.{length}

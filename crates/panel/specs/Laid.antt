@@ -1,5 +1,4 @@
 -- Records of one list laid over another: how the panel takes the lent records into a table, and gives them back.
--- Assumes nothing.
 use Prim.Native.Nat.{ℕ}
 use mathlib.Core.Path.{_≡_, refl, _∙_, ap}
 use mathlib.Core.List.{List, [], _∷_, _++_}

@@ -1,6 +1,5 @@
 -- What the record of a process is like after any schedule that all began idle: no condition of 21 is met by it. By a property that says, of
 -- each stage, what the three stores and the earlier stages have left, and that a step, a crash and a wake keep.
--- Assumes nothing.
 use Prim.Native.Nat.{ℕ, suc, _+_, _≤_, _<_}
 use mathlib.Core.Path.{_≡_, refl, sym, _∙_, subst}
 use mathlib.Core.Bool.{Bool, true, false, cond, _||_, true≢false}
@@ -18,9 +17,9 @@ use Rattle.machine.specs.declared.Stage.{Stage}
 use Rattle.machine.specs.declared.Stage.the-variants.{A1, A2, A3, A4, A5, A6, V1, V2, V3, V4, V5, V6}
 use Rattle.machine.specs.declared.Answer.the-variants.{False, True, Value}
 use Rattle.machine.specs.declared.Maybe.{Maybe}
-use Rattle.machine.specs.declared.Maybe.the-variants.{Nothing as None, Is}
+use Rattle.machine.specs.declared.Maybe.the-variants.{None, Is}
 use Rattle.machine.specs.declared.Opened.{Opened}
-use Rattle.machine.specs.declared.Opened.the-variants.{Nothing as Closed, Row as Open}
+use Rattle.machine.specs.declared.Opened.the-variants.{Closed, Open}
 use Rattle.machine.specs.declared.Status.{Status}
 use Rattle.machine.specs.declared.Status.the-variants.{Down, Idle, N2, N3, Busy}
 use Rattle.machine.specs.Turn.{Still, Quiet, Swaps, Logs, Loses}

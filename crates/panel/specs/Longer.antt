@@ -1,6 +1,5 @@
 -- A machine over more words than the file has runs as over the file's own: a byte reads and writes none of those beyond. And how much a byte adds
 -- to the log and to the answers: a row at most.
--- Assumes nothing.
 use Prim.Native.Nat.{ℕ, _+_, _≤_, _<_}
 use mathlib.Core.Path.{_≡_, refl, _∙_, ap}
 use mathlib.Core.List.{List, [], _∷_, _++_}

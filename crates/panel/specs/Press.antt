@@ -1,7 +1,6 @@
 -- One key of the panel: refused, or carried out. Change request 3: "the panel lends the run file too, and 1 to 12 come from it; then 13 also for
 -- a list shorter than P; 14 and 15 mean no room for one more row; 21 ..; 22, a key byte that is no action. Places of 13 on are 0, and nothing
 -- is changed."
--- Assumes nothing.
 use Prim.Native.Nat.{ℕ, _+_, _*_, _≤_}
 use mathlib.Core.Path.{_≡_}
 use mathlib.Core.Bool.{false, cond}

@@ -1,7 +1,6 @@
 -- Change request 3: "Stepping through a whole accepted schedule, from the file's words and all idle, ends exactly as the run does." With the counts
 -- handed from key to key no key is refused, and after each one the records, the words and the rows are those of the run after as many bytes.
 -- By going through the schedule: what the buffers hold is the machine's state, and a key makes of it what a byte does.
--- Assumes nothing.
 use Prim.Native.Nat.{ℕ, zero, suc, _+_, _*_, _≤_, _<_}
 use mathlib.Core.Path.{_≡_, refl, sym, _∙_, ap, subst}
 use mathlib.Core.Bool.{Bool, true, false}

@@ -15,7 +15,7 @@ ghost use lib.ListN.{length};
 ghost use Rattle.runfile.specs.Format.{RowSize};
 ghost use Rattle.runfile.specs.Operations.{rowsFrom, rowNumbered, reads};
 ghost use Rattle.runfile.specs.Lawful.{Lawful};
-ghost use Rattle.runfile.specs.Lines.{Lined};
+ghost use Rattle.runfile.specs.Shares.{Lined};
 ghost use Rattle.machine.specs.Records.{rowOpen};
 ghost use Rattle.panel.specs.Possible as possible;
 ghost use Rattle.panel.specs.Press as press;
@@ -38,8 +38,8 @@ fn is_impossible(
     let opened = process.opened;
     match opened {
         // With no row open no kind is asked for.
-        Opened::Nothing => misdone(false, process),
-        Opened::Row(k) => {
+        Opened::Closed => misdone(false, process),
+        Opened::Open(k) => {
             let row = runfile::row_at(table, stride, runfile::index16(k));
             misdone(row.kind == 0, process)
         }

@@ -51,11 +51,11 @@ pub struct After {
 }
 
 // The number that the request gives a refusal.
-pub fn number_of(why: Why) -> u32
+pub fn why_number(why: Why) -> u32
     ensures { λ r. ⌜ r ≡ numberOfWhy why ⌝ }
 {
     match why {
-        Why::File(refusal) => runfile::number_of(refusal),
+        Why::File(refusal) => runfile::refusal_number(refusal),
         Why::Words => 13,
         Why::Log => 14,
         Why::Answers => 15,

@@ -53,7 +53,7 @@ fn is_none(answer: Maybe) -> bool
     ensures { λ r. ⌜ r ≡ possible.isNone answer ⌝ }
 {
     match answer {
-        Maybe::Nothing => true,
+        Maybe::None => true,
         Maybe::Is(_) => false,
     }
 }
@@ -62,8 +62,8 @@ fn is_open(opened: Opened) -> bool
     ensures { λ r. ⌜ r ≡ possible.isOpen opened ⌝ }
 {
     match opened {
-        Opened::Nothing => false,
-        Opened::Row(_) => true,
+        Opened::Closed => false,
+        Opened::Open(_) => true,
     }
 }
 
@@ -72,8 +72,8 @@ fn not_last(first: u16, begun: u16, opened: Opened) -> bool
     ensures { λ r. ⌜ r ≡ possible.notLast first begun opened ⌝ }
 {
     match opened {
-        Opened::Nothing => false,
-        Opened::Row(k) => {
+        Opened::Closed => false,
+        Opened::Open(k) => {
             if begun == 0 {
                 return true;
             }
@@ -206,8 +206,8 @@ fn wrong_kind(reading: bool, opened: Opened, stored: Maybe, status: Status) -> b
     ensures { λ r. ⌜ r ≡ possible.wrongKind reading opened stored status ⌝ }
 {
     match opened {
-        Opened::Nothing => false,
-        Opened::Row(_) => {
+        Opened::Closed => false,
+        Opened::Open(_) => {
             if has_answer(reading, stored) {
                 return wrong_work(reading, status);
             }

@@ -25,8 +25,8 @@ fn empty() -> [Process; 16]
 {
     let process = Process {
         status: Status::Down,
-        opened: Opened::Nothing,
-        stored: Maybe::Nothing,
+        opened: Opened::Closed,
+        stored: Maybe::None,
         checkpoint: false,
         kept: false,
         begun: 0,

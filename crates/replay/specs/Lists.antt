@@ -1,5 +1,4 @@
 -- Lists: what holds of all entries, the entries that pass a test (a filter), and the first of them. By induction on the list.
--- Assumes nothing.
 use mathlib.Core.Path.{_≡_, refl, sym, _∙_, ap}
 use mathlib.Core.Bool.{Bool, true, false, cond}
 use mathlib.Core.List.{List, [], _∷_, _++_}

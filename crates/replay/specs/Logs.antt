@@ -1,6 +1,5 @@
 -- Logs in order: pairwise by position, swaps strictly; the entries up to a position and those after it as filters; and that a row put at
 -- its place keeps the order (`Put` says where it stands, so that nothing above looks at `place`, `take` or `drop`).
--- Assumes nothing.
 use Prim.Native.Nat.{ℕ, zero, suc, _≤_, _<_}
 use mathlib.Core.Path.{_≡_, refl, sym, _∙_, ap}
 use mathlib.Core.Bool.{Bool, true, false, not, cond}

@@ -1,5 +1,4 @@
 -- Plain words: values without flip bits, that are read, or compared and swapped, at one stroke; and a log carried out on them.
--- Assumes nothing.
 use Prim.Native.Nat.{ℕ}
 use mathlib.Core.Path.{_≡_}
 use mathlib.Core.Bool.{cond}

@@ -1,5 +1,4 @@
 -- The log after its rows have moved up and the new one is written: the rows with the new one put in, and behind them what stood there.
--- Assumes nothing.
 use mathlib.Core.Path.{_≡_, sym, ap, _∙_}
 use mathlib.Core.List.{List, [], _∷_, _++_, append-assoc, append-nil}
 use Prim.Native.Nat.{ℕ, _+_, _*_, _-_, _≤_}

@@ -1,5 +1,4 @@
 -- The move by one row, number by number from the last: below i nothing has moved yet, from i on every number stands five places further up.
--- Assumes nothing.
 use mathlib.Core.Path.{_≡_, sym}
 use mathlib.Core.List.{List, [], _∷_, _++_, append-assoc}
 use Prim.Native.Nat.{ℕ, suc, _+_, _-_, _≤_, _<_}

@@ -1,5 +1,4 @@
 -- Laws of rows in a buffer: rows that are written are read back, what is behind them stays, and later rows cover earlier ones.
--- Assumes nothing.
 use Prim.Native.Nat.{ℕ, zero, suc, _+_, _*_, _-_, _≤_, _<_}
 use mathlib.Core.Path.{_≡_, refl, sym, ap, _∙_}
 use mathlib.Core.List.{List, [], _∷_, _++_, append-assoc, append-nil}

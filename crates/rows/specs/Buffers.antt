@@ -1,6 +1,5 @@
 -- Rows in a lent buffer of numbers: document 01, "Three buffers, lent as 32-bit numbers". A run "writes the log and answer rows from the front.
 -- All numbers beyond stay as they were."
--- Assumes nothing.
 use Prim.Native.Nat.{ℕ, zero, suc, _+_, _*_}
 use mathlib.Core.List.{List, [], _∷_, _++_}
 use lib.ListN.{take, drop, getD, length}

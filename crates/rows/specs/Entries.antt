@@ -1,6 +1,5 @@
 -- A row of the log or of the answers, and what it says: document 01, "Log and answers".
 -- "Both have rows of five numbers: position, process, row number, verdict, value." An `Entry` is such a row, with any five numbers.
--- Assumes nothing.
 use Prim.Native.Nat.{ℕ}
 use mathlib.Core.Bool.{Bool}
 use lib.Dec.{eqb}

@@ -1,6 +1,5 @@
 -- Where a new row goes in the log, and the successful swap that a lost one looks for: document 01, "Log and answers".
 -- A log is a list of rows, front first. Both are defined for every list, ordered or not; `LogLaws` says the same in propositions.
--- Assumes nothing.
 use Prim.Native.Nat.{ℕ, zero, suc}
 use mathlib.Core.List.{List, [], _∷_, _++_}
 use mathlib.Core.Bool.{Bool, true, false, _&&_, cond}

@@ -1,6 +1,5 @@
 -- What the definitions of `Log` come to, in propositions and for every log, ordered or not: `place-behind` and `behind-one` say where a new row goes,
 -- `insert-before`, `insert-there` and `insert-behind` where every row stands afterwards, `first-swap` and `no-swap` which swap is found.
--- Assumes nothing.
 use Prim.Native.Nat.{ℕ, zero, suc, _+_, _-_, _≤_, _<_}
 use mathlib.Core.Path.{_≡_, refl, sym, ap, _∙_}
 use mathlib.Core.List.{List, [], _∷_, _++_}

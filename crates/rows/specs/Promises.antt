@@ -1,7 +1,6 @@
 -- The contracts of the public functions, and that each leaves no second outcome: the result, or every number of the lent buffer, is determined.
 -- A contract of one equation is that equation under a name, so that a caller rewrites with it as it stands. Buffers that are only read are not
 -- named after the call: nothing can change them.
--- Assumes nothing.
 use Prim.Native.Nat.{ℕ, _≤_}
 use mathlib.Core.Path.{_≡_, sym, _∙_}
 use mathlib.Core.List.{List, [], _∷_, _++_}

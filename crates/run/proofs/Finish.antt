@@ -1,5 +1,4 @@
 -- The run of an accepted file, from its parts: the table and the schedule are parts of the file, the words a part of their buffer.
--- Assumes nothing.
 use mathlib.Core.Path.{_≡_, refl, sym, ap, subst, _∙_}
 use mathlib.Core.Bool.{Bool, true, false}
 use lib.Dec.{ltb}

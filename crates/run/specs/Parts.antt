@@ -1,7 +1,6 @@
 -- The rows of the file's part that begins at a place are the rows of the file from there on.
--- Assumes nothing.
 use Rattle.runfile.specs.Lawful.{Lawful}
-use Rattle.runfile.specs.Lines.{Lined}
+use Rattle.runfile.specs.Shares.{Lined}
 use Rattle.runfile.specs.declared.Room.{Room}
 use Rattle.runfile.specs.declared.Header.{Header}
 use Rattle.runfile.specs.declared.Row.{Row}

@@ -1,5 +1,4 @@
 -- What a run file comes to: refused, or run.
--- Assumes nothing.
 use Prim.Native.Nat.{ℕ}
 use mathlib.Core.Path.{_≡_}
 use mathlib.Core.List.{List}

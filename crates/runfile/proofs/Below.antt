@@ -1,5 +1,4 @@
 -- Refusal 10 at row k, read off the bytes as the loop reads them: the row before stands one row's size earlier.
--- Assumes nothing.
 use mathlib.Core.Path.{_≡_}
 use mathlib.Core.Bool.{true, false}
 use mathlib.Core.List.{List}

@@ -1,5 +1,4 @@
 -- What refusal 12 says of a byte, by the ranges of its high four bits that the code's match has.
--- Assumes nothing.
 use mathlib.Core.Path.{_≡_, refl}
 use mathlib.Core.Bool.{true, not}
 use Prim.Native.Nat.{ℕ, zero, suc, _≤_, _<_}

@@ -1,6 +1,5 @@
 -- A loop that looks for the first offender, in the loop's own terms: before turn i the search from i on is the whole search.
 -- Said of any search (`Left`, for one in whose turns another search runs) and of one that asks a test at each number (`From`).
--- Assumes nothing.
 use mathlib.Core.Path.{_≡_, ap}
 use mathlib.Core.Bool.{Bool, true, false}
 use Prim.Native.Nat.{ℕ, suc, _+_, _-_, _≤_, _<_}

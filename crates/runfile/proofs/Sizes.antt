@@ -1,5 +1,4 @@
 -- Products of a count and a size: they are small, so no sum of places goes wrong.
--- Assumes nothing.
 use Prim.Native.Nat.{ℕ, _*_, _≤_, _<_}
 use native.Mathlib.Nat.{mul-le-mul}
 use native.Mathlib.Omega.{arith}

@@ -1,5 +1,4 @@
 -- One turn of the loops that make the two tables.
--- Assumes nothing.
 use mathlib.Core.Path.{_≡_, refl, sym, _∙_}
 use mathlib.Core.Bool.{Bool, true, false, cond}
 use mathlib.Core.List.{List}
@@ -14,7 +13,7 @@ use borrow.Author.Tests.{eqb-true, eqb-false, ltb-true, ltb-false}
 use Rattle.runfile.specs.Layout.{rowAt, rowOfTable}
 use Rattle.runfile.specs.Operations.{rowsFrom, count}
 use Rattle.runfile.specs.OperationLaws.{rowsFrom-snoc, count-snoc, length-rowsFrom}
-use Rattle.runfile.specs.Lines.{Counted, sumTo, count-fits}
+use Rattle.runfile.specs.Shares.{Counted, sumTo, count-fits}
 
 -- one row more
 module _ (s : ℕ) (table : List ℕ) (k : ℕ) (counts : List ℕ) (h : Counted (rowsFrom s table 0 k) counts) (q : ℕ) (is : q ≡ rowOfTable s table k .process) (small : q < 16) where

@@ -1,5 +1,4 @@
 -- What a schedule byte asks: document 01, "Schedule bytes".
--- Assumes nothing.
 use Prim.Native.Nat.{ℕ, _/_, _%_}
 use mathlib.Core.Bool.{cond}
 use lib.Dec.{eqb}

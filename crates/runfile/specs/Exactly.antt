@@ -1,7 +1,6 @@
 -- Each refusal is given exactly when the table says: `exactly`. The tests of Refusals.antt say what the propositions of Table.antt
 -- say (`tells-..`); a search finds what is first (`first-iff`, and for 9, a search in a search,
 -- `field-found` and `found-field`); and the checks go in the order of their list.
--- Assumes nothing.
 use Prim.Native.Nat.{ℕ, zero, suc, _+_, _*_, _-_, _/_, _%_, _≤_, _<_}
 use mathlib.Core.Path.{_≡_, refl, sym, ap, _∙_, subst}
 use mathlib.Core.Logic.{_↔_, _⊎_, inl, inr, ⊎-elim}

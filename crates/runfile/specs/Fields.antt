@@ -1,6 +1,5 @@
 -- The fields of a row in file order: document 01, "The run file". Each has a number in that order, numbers go up with offsets, and
 -- at its offset stands what the row holds for it; so a place names a row and a field.
--- Assumes nothing.
 use Prim.Native.Nat.{ℕ, zero, suc, _+_, _*_, _-_, _/_, _%_, _≤_, _<_}
 use mathlib.Core.Path.{_≡_, refl, sym, ap, _∙_}
 use mathlib.Core.Logic.{_↔_, _⊎_, inl, inr, ⊎-elim}

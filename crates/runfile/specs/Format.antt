@@ -1,6 +1,5 @@
 -- What depends on the version of a file: document 01, "The run file". The sizes of header, word and row, and the longest file, by the version;
 -- where a row's fields stand, by the row's size. All other definitions take these numbers from here, and the code takes them from src/format.rt.
--- Assumes nothing.
 use Prim.Native.Nat.{ℕ, zero, suc, _+_, _*_, _-_, _≤_, _<_}
 use mathlib.Core.Path.{_≡_, refl}
 use native.Mathlib.Nat.{mul-le-mul-right, suc-mul}

@@ -1,6 +1,5 @@
 -- The definitions at files, by computation: bench case f is accepted, case l is refused by 11 at place 15, and one slip in each field
 -- of a row is refused by 9 at that field's first byte.
--- Assumes nothing.
 use Prim.Native.Nat.{ℕ}
 use mathlib.Core.Path.{_≡_, refl}
 use mathlib.Core.List.{List, [], _∷_, _++_, map}

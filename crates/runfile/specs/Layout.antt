@@ -1,6 +1,5 @@
 -- Where the parts of a run file stand, and their fields: document 01, "The run file".
 -- A file is the list of its bytes. Everything here is total: a byte past the end counts as 0.
--- Assumes nothing.
 use Prim.Native.Nat.{ℕ, _+_, _*_, _≤_}
 use mathlib.Core.Bool.{Bool, _&&_}
 use mathlib.Core.List.{List}

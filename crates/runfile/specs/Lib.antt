@@ -4,7 +4,7 @@ pub mod Fields
 pub mod Operations
 pub mod OperationLaws
 pub mod RowLaws
-pub mod Lines
+pub mod Shares
 pub mod Actions
 pub mod Refusals
 pub mod Table

@@ -1,6 +1,5 @@
 -- Laws of the start words and of the rows as lists: how many there are, row k stands at its place, one row more at the end, and a process's
 -- rows are within the file.
--- Assumes nothing.
 use Prim.Native.Nat.{ℕ, zero, suc, _+_, _*_, _≤_, _<_}
 use mathlib.Core.Path.{_≡_, refl, _∙_, ap}
 use mathlib.Core.Bool.{Bool, true, false, cond}

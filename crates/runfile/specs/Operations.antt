@@ -1,5 +1,4 @@
 -- The operation rows of a file as a list, and what a row asks: document 01, "The run file".
--- Assumes nothing.
 use Prim.Native.Nat.{ℕ, zero, suc, _+_}
 use mathlib.Core.Bool.{Bool, false, cond}
 use mathlib.Core.List.{List, [], _∷_, _++_}

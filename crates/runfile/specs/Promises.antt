@@ -1,5 +1,4 @@
 -- The contracts of the public functions, one record each, and that each leaves no second outcome.
--- Assumes nothing.
 use Prim.Native.Nat.{ℕ}
 use mathlib.Core.Path.{_≡_, sym, _∙_}
 use mathlib.Core.List.{List}

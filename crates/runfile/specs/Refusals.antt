@@ -1,6 +1,5 @@
 -- What is refused: document 01, "Refusal numbers", as a computation. `found` is the table, a line for each of its lines.
 -- Table.antt says the same in propositions, and Exactly.antt proves that the two agree.
--- Assumes nothing.
 use Prim.Native.Nat.{ℕ, zero, suc, _+_, _*_, _-_}
 use mathlib.Core.Bool.{Bool, true, false, not, _&&_, _||_}
 use mathlib.Core.List.{List, [], _∷_, _++_}

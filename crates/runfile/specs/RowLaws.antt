@@ -1,6 +1,5 @@
 -- Laws of a row as it is read: the rows of a file's part that begins at a place are the rows of the file from there on; and how large the
 -- numbers of a row are.
--- Assumes nothing.
 use Prim.Native.Nat.{ℕ, zero, suc, _+_, _<_}
 use mathlib.Core.Path.{_≡_, refl}
 use mathlib.Core.List.{List}

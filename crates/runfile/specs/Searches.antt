@@ -1,6 +1,5 @@
 -- Laws of `firstFound`, "the first offender is reported": a search that found nothing passed nothing, and one that found a place
 -- found it at the first number that has one (`earliest`), the same both ways. By induction on the numbers left.
--- Assumes nothing.
 use Prim.Native.Nat.{ℕ, zero, suc, _+_, _≤_, _<_}
 use mathlib.Core.Path.{_≡_, refl, _∙_}
 use mathlib.Core.Bool.{Bool, true, false}

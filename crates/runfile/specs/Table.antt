@@ -1,6 +1,5 @@
 -- The table of refusals in propositions, line by line: document 01, "Refusal numbers". `Given h f room why at` is the column
 -- "Given exactly when" with the column "Place": h is the file's header, f its bytes, room the lengths of the three buffers.
--- Assumes nothing.
 use Prim.Native.Nat.{ℕ, _+_, _*_, _-_, _/_, _%_, _≤_, _<_}
 use mathlib.Core.Path.{_≡_}
 use mathlib.Core.Logic.{_⊎_}

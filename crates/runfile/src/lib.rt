@@ -3,12 +3,10 @@
 // `check` is the one door: every byte string is accepted, with its header by value, or refused by one
 // number and one place. Nothing is asked of its caller. The meaning of every answer stands in specs/Refusals.
 mod format;
-mod lines;
 mod offends;
 mod read;
+mod shares;
 
-pub use lines::counts_of;
-pub use lines::firsts_of;
 use offends::first_bad_byte;
 use offends::first_bad_field;
 use offends::first_below;
@@ -27,6 +25,8 @@ pub use read::stride_of;
 pub use read::u32_at;
 pub use read::word_at;
 pub use read::word_of_row;
+pub use shares::counts_of;
+pub use shares::firsts_of;
 ghost use mathlib.Core.Path.{_≡_};
 ghost use mathlib.Core.List.{List};
 ghost use Prim.Native.Nat.{ℕ, _≤_};
@@ -71,7 +71,7 @@ pub struct Room {
     pub answers: usize,
 }
 
-// The refusals in the order of document 01's table; `number_of` gives the numbers.
+// The refusals in the order of document 01's table; `refusal_number` gives the numbers.
 pub enum Refusal {
     Short,
     Mark,
@@ -103,7 +103,7 @@ pub enum Checked {
 }
 
 // The number that document 01 gives a refusal.
-pub fn number_of(why: Refusal) -> u32
+pub fn refusal_number(why: Refusal) -> u32
     ensures { λ r. ⌜ Numbers why r ⌝ }
 {
     match why {

@@ -1,5 +1,4 @@
 -- The word after a swap as the code computes it: the own bit is turned by an exclusive or, and the value is taken out and new put in.
--- Assumes nothing.
 use Prim.Native.Nat.{ℕ, zero, suc, _+_, _*_, _-_, _/_, _%_, _^_, _<_}
 use mathlib.Core.Path.{_≡_, refl, _∙_, ap}
 use native.Mathlib.Omega.{arith}

@@ -1,6 +1,5 @@
 -- The contracts of the public functions, and that each leaves no second outcome. Each is one equation under a name,
 -- so that a caller rewrites with it as it stands.
--- Assumes nothing.
 use Prim.Native.Nat.{ℕ, _^_, _<_}
 use mathlib.Core.Path.{_≡_, sym, _∙_, subst}
 use mathlib.Core.Bool.{Bool}

@@ -1,6 +1,5 @@
 -- A word: document 01, "The run file". A word is a number; layers above speak of it only through `value`, `bit` and `swapped`,
 -- and use the laws of `Laws`. Everything is defined over the width of the value, and `width` alone says what it is.
--- Assumes nothing.
 use Prim.Native.Nat.{ℕ, zero, suc, _+_, _*_, _-_, _/_, _%_, _^_}
 use mathlib.Core.Bool.{Bool}
 use lib.Dec.{eqb}

@@ -1,5 +1,4 @@
 -- `start_words` meets its contract: a file that is accepted has at most sixteen words, and they stand in it.
--- Assumes nothing.
 use Prim.Native.Nat.{ℕ, _≤_}
 use native.Mathlib.Omega.{arith}
 use lib.Seq.{length-take-le}
@@ -15,12 +14,6 @@ use Rattle.bench_panel.proofs.start_words.Tie as tie
 part-size : (c : tie.After-index8) → length (take {A = ℕ} (c .index8 .result) (replicate {A = ℕ} 16 0)) ≡ c .index8 .result
 part-size c = length-take-le _ _ (let e = c .index8 .ensures .0 in let l = c .before .before .pre .head .words in omega arith)
 
-index8-requires : tie.Need-index8-requires
-index8-requires c κs = search needs
-
-array-borrow-prefix-words : tie.Need-array-borrow-prefix-words
-array-borrow-prefix-words c = search needs
-
 slice-aggregate-load-words : tie.Need-slice-aggregate-load-words
 slice-aggregate-load-words c = sym (part-size (c .before))
 
@@ -30,15 +23,12 @@ load-words-requires c κs =
     let whole = st .pre .head .exact in
     subst (λ (n : ℕ). wordPlace (st .args .header .version) n ≤ length (now (st .args .file))) (sym (part-size (c .before) ∙ c .before .index8 .ensures .0)) (omega arith)
 
-returns : tie.Need-returns
-returns c = search needs
-
 pub start-words-spec : {M : Type 1} → statement M
 start-words-spec =
     tie.close
     (tie.spec
-    index8-requires
-    array-borrow-prefix-words
+    (λ c κs. search needs)
+    (λ c. search needs)
     slice-aggregate-load-words
     load-words-requires
-    returns)
+    (λ c. search needs))

@@ -1,5 +1,4 @@
 -- `add_answer` meets its contract: the five numbers stand directly behind those of the rows before.
--- Assumes nothing.
 use Prim.Native.Nat.{ℕ, _+_, _*_, _≤_}
 use mathlib.Core.Path.{_≡_, sym, _∙_}
 use mathlib.Core.List.{List, [], _∷_, _++_, append-assoc}

@@ -1,5 +1,4 @@
 -- `write_row` meets its contract: five stores in a row put the five numbers there (`sets-eq`), and the length stays.
--- Assumes nothing.
 use Prim.Native.Nat.{ℕ, _+_, _≤_}
 use mathlib.Core.Path.{_≡_, _∙_}
 use mathlib.Core.List.{List, append-assoc}
@@ -19,50 +18,17 @@ five-placed : (xs : List ℕ) (at : ℕ) (e : Entry) → at + 5 ≤ length xs
 unfolding placed five
 five-placed xs at e h = simp unary-clauses (simp unary-clauses at (sets-eq (five e) xs at h ∙ append-assoc (take at xs) (five e) (drop (at + 5) xs)))
 
-mul-buffer : tie.Need-mul-buffer
-mul-buffer c = search needs
-
-slice-write-buffer : tie.Need-slice-write-buffer
-slice-write-buffer c = search needs
-
-add-buffer : tie.Need-add-buffer
-add-buffer c = search needs
-
-mul-buffer-2 : tie.Need-mul-buffer-2
-mul-buffer-2 c = search needs
-
 slice-write-buffer-2 : tie.Need-slice-write-buffer-2
 slice-write-buffer-2 c = simp length-set (omega arith)
-
-add-buffer-2 : tie.Need-add-buffer-2
-add-buffer-2 c = search needs
-
-mul-buffer-3 : tie.Need-mul-buffer-3
-mul-buffer-3 c = search needs
 
 slice-write-buffer-3 : tie.Need-slice-write-buffer-3
 slice-write-buffer-3 c = simp length-set (omega arith)
 
-add-buffer-3 : tie.Need-add-buffer-3
-add-buffer-3 c = search needs
-
-mul-buffer-4 : tie.Need-mul-buffer-4
-mul-buffer-4 c = search needs
-
 slice-write-buffer-4 : tie.Need-slice-write-buffer-4
 slice-write-buffer-4 c = simp length-set (omega arith)
 
-add-buffer-4 : tie.Need-add-buffer-4
-add-buffer-4 c = search needs
-
-mul-buffer-5 : tie.Need-mul-buffer-5
-mul-buffer-5 c = search needs
-
 slice-write-buffer-5 : tie.Need-slice-write-buffer-5
 slice-write-buffer-5 c = simp length-set (omega arith)
-
-same-length : tie.Need-same-length
-same-length c = search needs
 
 returns : tie.Need-returns
 returns c = five-placed (now (c .args .buffer)) (c .args .at) (c .args .entry) (c .pre)
@@ -71,19 +37,19 @@ pub write-row-spec : {M : Type 1} → statement M
 write-row-spec =
     tie.close
     (tie.spec
-    mul-buffer
-    slice-write-buffer
-    add-buffer
-    mul-buffer-2
+    (λ c. search needs)
+    (λ c. search needs)
+    (λ c. search needs)
+    (λ c. search needs)
     slice-write-buffer-2
-    add-buffer-2
-    mul-buffer-3
+    (λ c. search needs)
+    (λ c. search needs)
     slice-write-buffer-3
-    add-buffer-3
-    mul-buffer-4
+    (λ c. search needs)
+    (λ c. search needs)
     slice-write-buffer-4
-    add-buffer-4
-    mul-buffer-5
+    (λ c. search needs)
+    (λ c. search needs)
     slice-write-buffer-5
-    same-length
+    (λ c. search needs)
     returns)

@@ -1,19 +1,9 @@
 -- `run` meets its contract: what the check refuses leaves everything as it was, and what it accepts is lawful.
--- Assumes nothing.
 use Rattle.runfile.specs.Promises.{decides-lawful}
 use mathlib.Core.Path.{refl, sym, _∙_}
 use borrow.Author.Needs.{needs}
 use Rattle.run.proofs.run.Statement.{statement}
 use Rattle.run.proofs.run.Tie as tie
-
-check-requires : tie.Need-check-requires
-check-requires c κs = search needs
-
-enum-known-why : tie.Need-enum-known-why
-enum-known-why c = search needs
-
-enum-known-header : tie.Need-enum-known-header
-enum-known-header c = search needs
 
 run-accepted-requires : tie.Need-run-accepted-requires
 run-accepted-requires c κs = let hd = c .before .before .before .before in
@@ -23,15 +13,6 @@ run-accepted-requires c κs = let hd = c .before .before .before .before in
 returns : tie.Need-returns
 returns c = let k = c .before .before .before in
     rw (sym (k .check .ensures .result) ∙ c .before .why .given .1) (record { result = refl; words-are = refl; log-is = refl; answers-are = refl })
-
-same-length : tie.Need-same-length
-same-length c = search needs
-
-same-length-2 : tie.Need-same-length-2
-same-length-2 c = search needs
-
-same-length-3 : tie.Need-same-length-3
-same-length-3 c = search needs
 
 returns-2 : tie.Need-returns-2
 returns-2 c = let ra = c .before .before .before .before .before .before in
@@ -43,12 +24,12 @@ pub run-spec : {M : Type 1} → statement M
 run-spec =
     tie.close
     (tie.spec
-    check-requires
-    enum-known-why
-    enum-known-header
+    (λ c κs. search needs)
+    (λ c. search needs)
+    (λ c. search needs)
     run-accepted-requires
     returns
-    same-length
-    same-length-2
-    same-length-3
+    (λ c. search needs)
+    (λ c. search needs)
+    (λ c. search needs)
     returns-2)

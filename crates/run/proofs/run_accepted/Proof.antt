@@ -1,5 +1,4 @@
 -- `run_accepted` meets its contract: the front of the words buffer is lent on, and behind it stands what stood there.
--- Assumes nothing.
 use native.Mathlib.Omega.{arith}
 use Rattle.run.proofs.Finish.{finish, part-lawful}
 use denote.Ref.{now}
@@ -19,12 +18,6 @@ start c = c .before .before .before .before .before
 part-size : (c : tie.After-index8) → length (take (c .index8 .result) (now (start c .args .words))) ≡ c .index8 .result
 part-size c = length-take-le _ _ (let e = c .index8 .ensures .0 in let h = start c .pre .words-room in omega arith)
 
-index8-requires : tie.Need-index8-requires
-index8-requires c κs = search needs
-
-slice-relend-prefix-run-words : tie.Need-slice-relend-prefix-run-words
-slice-relend-prefix-run-words c = search needs
-
 slice-aggregate-run-words : tie.Need-slice-aggregate-run-words
 slice-aggregate-run-words c = sym (part-size (c .before))
 
@@ -34,15 +27,6 @@ run-words-requires c κs = let ix = c .before .before .before in
     let a = s .args in
     let size = part-size ix ∙ ix .index8 .ensures .0 in
     (size, part-lawful (a .header) (now (a .file)) (now (a .words)) (now (a .log)) (now (a .answers)) (s .pre) (take (ix .index8 .result) (now (a .words))) size)
-
-same-length : tie.Need-same-length
-same-length c = search needs
-
-same-length-2 : tie.Need-same-length-2
-same-length-2 c = search needs
-
-same-length-3 : tie.Need-same-length-3
-same-length-3 c = search needs
 
 returns : tie.Need-returns
 returns c = let rn = c .before .before .before .before .before .before in
@@ -55,11 +39,11 @@ pub run-accepted-spec : {M : Type 1} → statement M
 run-accepted-spec =
     tie.close
     (tie.spec
-    index8-requires
-    slice-relend-prefix-run-words
+    (λ c κs. search needs)
+    (λ c. search needs)
     slice-aggregate-run-words
     run-words-requires
-    same-length
-    same-length-2
-    same-length-3
+    (λ c. search needs)
+    (λ c. search needs)
+    (λ c. search needs)
     returns)

@@ -1,5 +1,4 @@
 -- `run_words` meets its contract: the parts of the file are its table and its schedule, and what is lent to the machine is its first state.
--- Assumes nothing.
 use Rattle.run.proofs.Finish.{asked, told}
 use Prim.Native.Nat.{ℕ, _≤_}
 use mathlib.Core.Path.{sym, subst}
@@ -20,47 +19,11 @@ use Rattle.runfile.proofs.index8.Reads as index8-reads
 use Rattle.runfile.proofs.rows_start.Reads as rows-start-reads
 use Rattle.runfile.proofs.schedule_start.Reads as schedule-start-reads
 
-index16-requires : tie.Need-index16-requires
-index16-requires c κs = search needs
-
-stride-of-requires : tie.Need-stride-of-requires
-stride-of-requires c κs = search needs
-
-rows-start-requires : tie.Need-rows-start-requires
-rows-start-requires c κs = search needs
-
-schedule-start-requires : tie.Need-schedule-start-requires
-schedule-start-requires c κs = search needs
-
 load-words-requires : tie.Need-load-words-requires
 load-words-requires c κs = let s = c .before .before .before .before .before .before .before .before .before in
     let a = s .args in
     let e = s .pre .1 .head .exact in
     subst (λ (n : ℕ). wordPlace (a .header .version) n ≤ length (now (a .file))) (sym (s .pre .0)) (omega arith)
-
-fresh-requires : tie.Need-fresh-requires
-fresh-requires c κs = search needs
-
-sub-run-bytes : tie.Need-sub-run-bytes
-sub-run-bytes c = search needs
-
-part-run-bytes-start : tie.Need-part-run-bytes-start
-part-run-bytes-start c = search needs
-
-part-run-bytes-end : tie.Need-part-run-bytes-end
-part-run-bytes-end c = search needs
-
-sub-run-bytes-2 : tie.Need-sub-run-bytes-2
-sub-run-bytes-2 c = search needs
-
-part-run-bytes-start-2 : tie.Need-part-run-bytes-start-2
-part-run-bytes-start-2 c = search needs
-
-part-run-bytes-end-2 : tie.Need-part-run-bytes-end-2
-part-run-bytes-end-2 c = search needs
-
-index8-requires : tie.Need-index8-requires
-index8-requires c κs = search needs
 
 run-bytes-requires : tie.Need-run-bytes-requires
 run-bytes-requires c κs = let i8 = c in
@@ -73,15 +36,6 @@ run-bytes-requires c κs = let i8 = c in
     let s = ix .before .before .before .before .before in
     let a = s .args in
     asked (a .header) (now (a .file)) (now (a .words)) (now (a .log)) (now (a .answers)) (s .pre .1) _ _ _ _ _ _ _ (so .stride-of .ensures .0) (rs .rows-start .ensures .0) (ix .index16 .ensures .0) (ss .schedule-start .ensures .0) (i8 .index8 .ensures .0) (lw .load-words .ensures) (s .pre .0) (fr .fresh .ensures)
-
-same-length : tie.Need-same-length
-same-length c = search needs
-
-same-length-2 : tie.Need-same-length-2
-same-length-2 c = search needs
-
-same-length-3 : tie.Need-same-length-3
-same-length-3 c = search needs
 
 returns : tie.Need-returns
 returns c = let rn = c .before .before .before .before .before .before in
@@ -100,21 +54,21 @@ pub run-words-spec : {M : Type 1} → statement M
 run-words-spec =
     tie.close
     (tie.spec
-    index16-requires
-    stride-of-requires
-    rows-start-requires
-    schedule-start-requires
+    (λ c κs. search needs)
+    (λ c κs. search needs)
+    (λ c κs. search needs)
+    (λ c κs. search needs)
     load-words-requires
-    fresh-requires
-    sub-run-bytes
-    part-run-bytes-start
-    part-run-bytes-end
-    sub-run-bytes-2
-    part-run-bytes-start-2
-    part-run-bytes-end-2
-    index8-requires
+    (λ c κs. search needs)
+    (λ c. search needs)
+    (λ c. search needs)
+    (λ c. search needs)
+    (λ c. search needs)
+    (λ c. search needs)
+    (λ c. search needs)
+    (λ c κs. search needs)
     run-bytes-requires
-    same-length
-    same-length-2
-    same-length-3
+    (λ c. search needs)
+    (λ c. search needs)
+    (λ c. search needs)
     returns)

@@ -1,5 +1,4 @@
 -- `check` meets `Decides`: refusals 1 to 12 look at no buffer, so what `check_file` refuses is refused, and else 13 to 15 decide.
--- Assumes nothing.
 use Rattle.runfile.specs.Order.{passes, stops, accepts}
 use Rattle.runfile.specs.Refusals.{found, fileChecks, roomChecks, fileRefusal, refusalOf}
 use Rattle.runfile.specs.Layout.{headerIn}
@@ -20,22 +19,10 @@ file c = now (c .before .before .args .file)
 abbrev finds : tie.After-check-file → Refusal → Found
 finds c = found (headerIn (file c)) (file c) (c .before .before .args .room)
 
-check-file-requires : tie.Need-check-file-requires
-check-file-requires c κs = search needs
-
-enum-known-checked : tie.Need-enum-known-checked
-enum-known-checked c = search needs
-
-enum-told : tie.Need-enum-told
-enum-told c = search needs
-
 returns : tie.Need-returns
 unfolding fileRefusal refusalOf
 returns c = let k = c .before .before in
     record { result = c .enum-told .given .1 ∙ sym (stops (finds k) _ fileChecks roomChecks _ _ (sym (k .check-file .ensures) ∙ c .enum-told .given .1)) }
-
-check-room-requires : tie.Need-check-room-requires
-check-room-requires c κs = search needs
 
 returns-2 : tie.Need-returns-2
 unfolding fileRefusal refusalOf
@@ -49,9 +36,9 @@ pub check-spec : {M : Type 1} → statement M
 check-spec =
     tie.close
     (tie.spec
-    check-file-requires
-    enum-known-checked
-    enum-told
+    (λ c κs. search needs)
+    (λ c. search needs)
+    (λ c. search needs)
     returns
-    check-room-requires
+    (λ c κs. search needs)
     returns-2)

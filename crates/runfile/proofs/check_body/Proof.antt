@@ -1,5 +1,4 @@
 -- `check_body` meets its contract: each search finds what its line of the table finds, and the first that finds something decides.
--- Assumes nothing.
 use Rattle.runfile.specs.Refusals.{found, noRoom}
 use Rattle.runfile.specs.Format.{RowSize}
 use Rattle.runfile.specs.Layout.{rowPlace, scheduleStart}
@@ -59,80 +58,32 @@ held c = let k = c .before in
     let x = s .pre .0 in
     (k .stride-of .ensures .1, rw (k .before .rows-start .ensures .0, k .stride-of .ensures .0, c .index16 .ensures .0) (omega arith))
 
-rows-start-requires : tie.Need-rows-start-requires
-rows-start-requires c κs = search needs
-
-index16-requires : tie.Need-index16-requires
-index16-requires c κs = search needs
-
-stride-of-requires : tie.Need-stride-of-requires
-stride-of-requires c κs = search needs
-
 first-bad-field-requires : tie.Need-first-bad-field-requires
 first-bad-field-requires c κs = held c
-
-enum-known-place : tie.Need-enum-known-place
-enum-known-place c = search needs
 
 returns : tie.Need-returns
 returns c = rw (row-found (c .before .before .before) ∙ c .before .place .given .1)
 
-enum-told : tie.Need-enum-told
-enum-told c = search needs
-
 first-below-requires : tie.Need-first-below-requires
 first-below-requires c κs = held (c .before .before .before)
-
-enum-known-place-2 : tie.Need-enum-known-place-2
-enum-known-place-2 c = search needs
 
 returns-2 : tie.Need-returns-2
 returns-2 c = let o = c .before .before .before in
     rw (row-clear (o .before), order-found o ∙ c .before .place2 .given .1)
 
-enum-told-2 : tie.Need-enum-told-2
-enum-told-2 c = search needs
-
 first-same-requires : tie.Need-first-same-requires
 first-same-requires c κs = held (c .before .before .before .before .before .before)
-
-enum-known-place-3 : tie.Need-enum-known-place-3
-enum-known-place-3 c = search needs
 
 returns-3 : tie.Need-returns-3
 returns-3 c = let s = c .before .before .before in
     let o = s .before .before .before in
     rw (row-clear (o .before), order-clear (s .before), same-found s ∙ c .before .place3 .given .1)
 
-enum-told-3 : tie.Need-enum-told-3
-enum-told-3 c = search needs
-
-schedule-start-requires : tie.Need-schedule-start-requires
-schedule-start-requires c κs = search needs
-
-sub-first-bad-byte : tie.Need-sub-first-bad-byte
-sub-first-bad-byte c = search needs
-
-part-first-bad-byte-start : tie.Need-part-first-bad-byte-start
-part-first-bad-byte-start c = search needs
-
-part-first-bad-byte-end : tie.Need-part-first-bad-byte-end
-part-first-bad-byte-end c = search needs
-
-first-bad-byte-requires : tie.Need-first-bad-byte-requires
-first-bad-byte-requires c κs = search needs
-
-enum-known-place-4 : tie.Need-enum-known-place-4
-enum-known-place-4 c = search needs
-
 returns-4 : tie.Need-returns-4
 returns-4 c = let b = c .before .before .before in
     let s = b .before .before .before .before .before in
     let o = s .before .before .before in
     rw (row-clear (o .before), order-clear (s .before), same-clear (b .before .before .before), action-found b ∙ c .before .place4 .given .1)
-
-enum-told-4 : tie.Need-enum-told-4
-enum-told-4 c = search needs
 
 returns-5 : tie.Need-returns-5
 returns-5 c = let b = c .before .before in
@@ -144,27 +95,27 @@ pub check-body-spec : {M : Type 1} → statement M
 check-body-spec =
     tie.close
     (tie.spec
-    rows-start-requires
-    stride-of-requires
-    index16-requires
+    (λ c κs. search needs)
+    (λ c κs. search needs)
+    (λ c κs. search needs)
     first-bad-field-requires
-    enum-known-place
+    (λ c. search needs)
     returns
-    enum-told
+    (λ c. search needs)
     first-below-requires
-    enum-known-place-2
+    (λ c. search needs)
     returns-2
-    enum-told-2
+    (λ c. search needs)
     first-same-requires
-    enum-known-place-3
+    (λ c. search needs)
     returns-3
-    enum-told-3
-    schedule-start-requires
-    sub-first-bad-byte
-    part-first-bad-byte-start
-    part-first-bad-byte-end
-    first-bad-byte-requires
-    enum-known-place-4
+    (λ c. search needs)
+    (λ c κs. search needs)
+    (λ c. search needs)
+    (λ c. search needs)
+    (λ c. search needs)
+    (λ c κs. search needs)
+    (λ c. search needs)
     returns-4
-    enum-told-4
+    (λ c. search needs)
     returns-5)

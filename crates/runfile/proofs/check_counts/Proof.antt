@@ -1,5 +1,4 @@
 -- `check_counts` meets its contract: at each return the tests on the way give the value of every check up to there.
--- Assumes nothing.
 use mathlib.Core.Path.{sym, _∙_}
 use borrow.Author.Tests.{le-ltb, lt-ltb, eq-eqb, ne-eqb}
 use borrow.Author.Needs.{needs}
@@ -9,14 +8,8 @@ use Rattle.runfile.proofs.check_counts.Tie as tie
 returns : tie.Need-returns
 returns c = λ f. simp (ne-eqb _ _ (c .if1 .taken))
 
-is-out-of-range-requires : tie.Need-is-out-of-range-requires
-is-out-of-range-requires c κs = search needs
-
 returns-2 : tie.Need-returns-2
 returns-2 c = λ f. simp (sym (c .before .is-out-of-range .ensures) ∙ c .if2 .taken, eq-eqb _ _ (c .before .before .if1 .left))
-
-is-out-of-range-requires-2 : tie.Need-is-out-of-range-requires-2
-is-out-of-range-requires-2 c κs = search needs
 
 returns-3 : tie.Need-returns-3
 returns-3 c = λ f. simp (sym (c .before .is-out-of-range2 .ensures) ∙ c .if3 .taken, sym (c .before .before .before .is-out-of-range .ensures) ∙ c .before .before .if2 .left, eq-eqb _ _ (c .before .before .before .before .if1 .left))
@@ -35,9 +28,9 @@ check-counts-spec =
     tie.close
     (tie.spec
     returns
-    is-out-of-range-requires
+    (λ c κs. search needs)
     returns-2
-    is-out-of-range-requires-2
+    (λ c κs. search needs)
     returns-3
     returns-4
     returns-5

@@ -1,5 +1,4 @@
 -- `check_file` meets its contract: a file that is long enough is refused by its head, or its head is lawful and the body decides.
--- Assumes nothing.
 use Rattle.runfile.specs.Lawful.{lawful-head, longest-any}
 use Rattle.runfile.specs.Order.{passes, stops, accepts}
 use Rattle.runfile.specs.Refusals.{found, noRoom, firstOf, headChecks, bodyChecks, fileRefusal}
@@ -24,18 +23,6 @@ returns : tie.Need-returns
 unfolding fileRefusal
 returns c = rw (lt-ltb _ _ (c .if1 .taken))
 
-header-of-requires : tie.Need-header-of-requires
-header-of-requires c κs = search needs
-
-check-head-requires : tie.Need-check-head-requires
-check-head-requires c κs = search needs
-
-enum-told : tie.Need-enum-told
-enum-told c = search needs
-
-enum-told-2 : tie.Need-enum-told-2
-enum-told-2 c = search needs
-
 returns-2 : tie.Need-returns-2
 unfolding fileRefusal
 returns-2 c = let k = c .before .before in
@@ -58,10 +45,10 @@ check-file-spec =
     tie.close
     (tie.spec
     returns
-    header-of-requires
-    check-head-requires
-    enum-told
-    enum-told-2
+    (λ c κs. search needs)
+    (λ c κs. search needs)
+    (λ c. search needs)
+    (λ c. search needs)
     returns-2
     check-body-requires
     returns-3)

@@ -1,5 +1,4 @@
 -- `check_head` meets its contract: the mark, then the counts as one part of the list of checks, then the length.
--- Assumes nothing.
 use Rattle.runfile.specs.Order.{passes, stops}
 use Rattle.runfile.specs.Refusals.{found, noRoom, firstOf, countChecks}
 use Rattle.runfile.specs.declared.Found.{Found}
@@ -30,27 +29,12 @@ start c = c .before .before .before .before .before .before
 counted : (c : tie.After-check-counts) → firstOf (finds (c .before .before .before .before)) countChecks (c .before .before .before .before .args .header) ≡ c .check-counts .result
 counted c = sym (c .check-counts .ensures (now (c .before .before .before .before .args .file)))
 
-has-mark-requires : tie.Need-has-mark-requires
-has-mark-requires c κs = search needs
-
 returns : tie.Need-returns
 unfolding marked
 returns c = rw (sym (c .before .has-mark .ensures) ∙ not-true _ (c .if1 .taken))
 
-check-counts-requires : tie.Need-check-counts-requires
-check-counts-requires c κs = search needs
-
-enum-told : tie.Need-enum-told
-enum-told c = search needs
-
-enum-told-2 : tie.Need-enum-told-2
-enum-told-2 c = search needs
-
 returns-2 : tie.Need-returns-2
 returns-2 c = c .enum-told2 .given .1 ∙ sym (rw (is-marked (c .before .before .before)) (stops (finds (c .before .before .before .before .before .before)) _ countChecks (refusal.Length ∷ []) _ _ (counted (c .before .before) ∙ c .enum-told2 .given .1)))
-
-length-given-requires : tie.Need-length-given-requires
-length-given-requires c κs = search needs
 
 returns-3 : tie.Need-returns-3
 returns-3 c = let t = c .before .before in
@@ -64,12 +48,12 @@ pub check-head-spec : {M : Type 1} → statement M
 check-head-spec =
     tie.close
     (tie.spec
-    has-mark-requires
+    (λ c κs. search needs)
     returns
-    check-counts-requires
-    enum-told
-    enum-told-2
+    (λ c κs. search needs)
+    (λ c. search needs)
+    (λ c. search needs)
     returns-2
-    length-given-requires
+    (λ c κs. search needs)
     returns-3
     returns-4)

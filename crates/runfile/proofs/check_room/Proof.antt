@@ -1,5 +1,4 @@
 -- `check_room` meets its contract: the three comparisons in order; no byte of the file is looked at.
--- Assumes nothing.
 use borrow.Author.Tests.{le-ltb, lt-ltb}
 use borrow.Author.Needs.{needs}
 use Rattle.runfile.proofs.check_room.Statement.{statement}

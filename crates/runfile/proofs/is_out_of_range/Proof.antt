@@ -1,5 +1,4 @@
 -- `is_out_of_range` meets its contract: the two tests in order.
--- Assumes nothing.
 use borrow.Author.Tests.{eq-eqb, ne-eqb}
 use Rattle.runfile.proofs.is_out_of_range.Statement.{statement}
 use Rattle.runfile.proofs.is_out_of_range.Tie as tie

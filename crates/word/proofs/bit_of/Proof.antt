@@ -1,5 +1,4 @@
 -- `bit_of` meets its contract: bit 16 + p of the word (`bit-stands`), as a shift reads it (`bit-of-div`).
--- Assumes nothing.
 use mathlib.Core.Path.{sym, _∙_}
 use Prim.Native.Nat.{_+_}
 use borrow.Author.Needs.{needs}

@@ -1,5 +1,4 @@
 -- `swapped_of` meets its contract: the exclusive or turns bit 16 + p and no other (`put-in`), and what the value leaves of 2^32 has room for new.
--- Assumes nothing.
 use Prim.Native.Nat.{ℕ, _+_, _*_, _-_, _%_, _^_, _<_}
 use mathlib.Core.Path.{_≡_, ap}
 use native.Mathlib.Omega.{arith}

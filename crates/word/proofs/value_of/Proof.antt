@@ -1,5 +1,4 @@
 -- `value_of` meets its contract: the remainder of the word by the number of values is its low bits.
--- Assumes nothing.
 use borrow.Author.Needs.{needs}
 use Rattle.word.specs.Word.{valueIn}
 use Rattle.word.proofs.value_of.Statement.{statement}

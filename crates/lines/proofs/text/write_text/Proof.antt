@@ -1,5 +1,4 @@
 -- `write_text` meets its contract: what is written is as long as it says.
--- Assumes nothing.
 use lib.Seq.{length-take-le}
 use mathlib.Core.Path.{sym}
 use borrow.Author.Needs.{needs}

@@ -1,6 +1,5 @@
 -- `run_bytes` meets its contract. Invariant: buffers and records hold the state after the first i bytes (`Holding`). Measure: the bytes left.
 -- Each way through the loop is one of the ways that Loop.antt names.
--- Assumes nothing.
 use mathlib.Core.Path.{_≡_, refl, sym, ap, subst, _∙_}
 use mathlib.Core.List.{List, [], _∷_}
 use Prim.Native.Nat.{ℕ, _+_, _*_, _-_, _/_, _≤_, _<_}
@@ -18,7 +17,7 @@ use Rattle.runfile.specs.Actions.{named}
 use Rattle.runfile.specs.Layout.{rowOfTable}
 use Rattle.runfile.specs.Operations.{rowsFrom, rowNumbered, first, count}
 use Rattle.runfile.specs.OperationLaws.{length-rowsFrom}
-use Rattle.runfile.specs.Lines.{Counted, has-row, last-fits, first-at, sum-fits}
+use Rattle.runfile.specs.Shares.{Counted, has-row, last-fits, first-at, sum-fits}
 use Rattle.machine.specs.declared.Process.{Process}
 use Rattle.machine.specs.declared.Standing.{Standing}
 use Rattle.machine.specs.declared.Maybe.the-variants.{Is}
@@ -155,44 +154,44 @@ sane-of s =
     sane-mine (head x .loop .inv) (meets x) (low s) (here x) (sane-lent (rows l) (b .args .present) (b .args .from) (now (b .args .schedule)) (now (b .args .words)) (now (b .args .log)) (now (b .args .answers)) (sixteen b) (b .pre .present) (b .pre .sane))
 
 -- in the midst of work a row is open, and it is in the file: its number, the row as it is read from the table, and that both are in reach
-abbrev step-at : tie.After-number-of Inv-loop μ-loop → tie.Then1 Inv-loop μ-loop
+abbrev step-at : tie.After-stage-number Inv-loop μ-loop → tie.Then1 Inv-loop μ-loop
 step-at b = b .before .before .before .before .before .before .before .before
 
-abbrev turn-at : tie.After-number-of Inv-loop μ-loop → tie.After-index8 Inv-loop μ-loop
+abbrev turn-at : tie.After-stage-number Inv-loop μ-loop → tie.After-index8 Inv-loop μ-loop
 turn-at b = step-at b .before
 
-abbrev K : tie.After-number-of Inv-loop μ-loop → ℕ
+abbrev K : tie.After-stage-number Inv-loop μ-loop → ℕ
 K b = rowOpen (mine (turn-at b) .opened)
 
-busy-is : (b : tie.After-number-of Inv-loop μ-loop) → WorkOpen (mine (turn-at b) .status) (mine (turn-at b) .opened)
+busy-is : (b : tie.After-stage-number Inv-loop μ-loop) → WorkOpen (mine (turn-at b) .status) (mine (turn-at b) .opened)
 busy-is b = sane-of (step-at b) .works
 
-open-in : (b : tie.After-number-of Inv-loop μ-loop) → K b < n (head (turn-at b))
+open-in : (b : tie.After-stage-number Inv-loop μ-loop) → K b < n (head (turn-at b))
 open-in b =
     let l = head (turn-at b) in
     let w = subst (λ st. WorkOpen st (mine (turn-at b) .opened)) (b .before .before .before .before .before .status .given .1) (busy-is b) in
     subst (λ o. rowOpen o < n l) (sym (w .1)) (rw (length-rowsFrom (stride l) (table l) 0 (n l)) at (sane-of (step-at b) .in-file (w .0) (w .1)))
 
-row-no : (b : tie.After-number-of Inv-loop μ-loop) → b .before .before .open-row .result ≡ K b
+row-no : (b : tie.After-stage-number Inv-loop μ-loop) → b .before .before .open-row .result ≡ K b
 row-no b = b .before .before .open-row .ensures
 
-k-is : (b : tie.After-number-of Inv-loop μ-loop) → b .before .index16 .result ≡ K b
+k-is : (b : tie.After-stage-number Inv-loop μ-loop) → b .before .index16 .result ≡ K b
 k-is b = b .before .index16 .ensures .0 ∙ row-no b
 
-row-found : (b : tie.After-number-of Inv-loop μ-loop) → (let l = head (turn-at b) in rowOfTable (stride l) (table l) (b .before .index16 .result) ≡ rowNumbered (rows l) (K b))
+row-found : (b : tie.After-stage-number Inv-loop μ-loop) → (let l = head (turn-at b) in rowOfTable (stride l) (table l) (b .before .index16 .result) ≡ rowNumbered (rows l) (K b))
 row-found b = let l = head (turn-at b) in ap (λ (k : ℕ). rowOfTable (stride l) (table l) k) (k-is b) ∙ row-is (stride l) (table l) (n l) (K b) (open-in b)
 
-row-numbered : (b : tie.After-number-of Inv-loop μ-loop) → (let l = head (turn-at b) in rowOfTable (stride l) (table l) (b .before .before .open-row .result) ≡ rowNumbered (rows l) (K b))
+row-numbered : (b : tie.After-stage-number Inv-loop μ-loop) → (let l = head (turn-at b) in rowOfTable (stride l) (table l) (b .before .before .open-row .result) ≡ rowNumbered (rows l) (K b))
 row-numbered b = let l = head (turn-at b) in ap (λ (k : ℕ). rowOfTable (stride l) (table l) k) (row-no b) ∙ row-is (stride l) (table l) (n l) (K b) (open-in b)
 
-reach : (b : tie.After-number-of Inv-loop μ-loop) → Reach (stride (head (turn-at b))) (table (head (turn-at b))) (b .before .index16 .result) (head (turn-at b) .loop .words)
+reach : (b : tie.After-stage-number Inv-loop μ-loop) → Reach (stride (head (turn-at b))) (table (head (turn-at b))) (b .before .index16 .result) (head (turn-at b) .loop .words)
 reach b =
     let l = head (turn-at b) in
     let p = begins l .pre in
     subst (λ (k : ℕ). Reach (stride l) (table l) k (l .loop .words)) (sym (k-is b))
     (record { row = has-row (stride l) (table l) (n l) (K b) (p .lined .size) (p .lined .whole) (open-in b); word = rw (l .loop .inv .words-same) (p .on-words (K b) (open-in b)) })
 
-word-is : (b : tie.After-number-of Inv-loop μ-loop) (now : ℕ) → (let l = head (turn-at b) in now ≡ getD (l .loop .words) (rowOfTable (stride l) (table l) (b .before .index16 .result) .word) 0 → now ≡ getD (l .loop .words) (rowNumbered (rows l) (K b) .word) 0)
+word-is : (b : tie.After-stage-number Inv-loop μ-loop) (now : ℕ) → (let l = head (turn-at b) in now ≡ getD (l .loop .words) (rowOfTable (stride l) (table l) (b .before .index16 .result) .word) 0 → now ≡ getD (l .loop .words) (rowNumbered (rows l) (K b) .word) 0)
 word-is b now e = let l = head (turn-at b) in e ∙ ap (λ (row : Row). getD (l .loop .words) (row .word) 0) (row-found b)
 
 -- a status other than Down is not woken
@@ -219,9 +218,6 @@ high c =
 nothing : {A : Type 0} → (c : tie.At-match3-rest Inv-loop μ-loop) → A
 nothing c = let x = c .before .before in never (head x .loop .inv) (meets x) (high c) (c .match3 .rest .1)
 
-counts-of-requires : tie.Need-counts-of-requires Inv-loop μ-loop
-counts-of-requires c κs = search needs
-
 firsts-of-requires : tie.Need-firsts-of-requires Inv-loop μ-loop
 firsts-of-requires c κs = let s = c .before .before .before .before .before .before in
     sum-fits (s .args .stride) (now (s .args .table)) (s .args .n) (c .counts-of .result) (s .pre .lined .few) (c .counts-of .ensures)
@@ -231,112 +227,31 @@ loop-holds c = let s = c .before .before .before .before .before .before .before
     let a = s .args in
     hold-start (rowsFrom (a .stride) (now (a .table)) 0 (a .n)) (a .present) (a .from) (now (a .schedule)) (now (a .words)) (now (a .log)) (now (a .answers)) (sixteen s) (let r = s .pre .log-room in omega arith) (let r = s .pre .answers-room in omega arith)
 
-shared-slice-read-byte : tie.Need-shared-slice-read-byte Inv-loop μ-loop
-shared-slice-read-byte c = search needs
-
 add-position : tie.Need-add-position Inv-loop μ-loop
 add-position c = record { fits = let a = c .before .loop-test .taken in let b = begins (c .before .before) .pre .early in omega arith }
 
 cast-position : tie.Need-cast-position Inv-loop μ-loop
 cast-position c = record { fits = let a = c .before .loop-test .taken in let b = begins (c .before .before) .pre .early in omega arith }
 
-index8-requires : tie.Need-index8-requires Inv-loop μ-loop
-index8-requires c κs = search needs
-
-add-i : tie.Need-add-i Inv-loop μ-loop
-add-i c = search needs
-
-mul-named : tie.Need-mul-named Inv-loop μ-loop
-mul-named c = search needs
-
-array-copy-out-named : tie.Need-array-copy-out-named Inv-loop μ-loop
-array-copy-out-named c = search needs
-
-enum-told : tie.Need-enum-told Inv-loop μ-loop
-enum-told c = search needs
-
-loop-less : tie.Need-loop-less Inv-loop μ-loop
-loop-less c = search needs
-
 loop-again : tie.Need-loop-again Inv-loop μ-loop
 loop-again c = let s = c .before .before .before in
     let x = s .before in
     hold-still (head x .loop .inv) (meets x) (low s) (here x) (is s) (at-down (head x .loop .inv) (meets x) (low s) (here x) (is s) (c .enum-told .given .1))
-
-enum-told-2 : tie.Need-enum-told-2 Inv-loop μ-loop
-enum-told-2 c = search needs
-
-mul-process : tie.Need-mul-process Inv-loop μ-loop
-mul-process c = search needs
-
-array-copy-out-process : tie.Need-array-copy-out-process Inv-loop μ-loop
-array-copy-out-process c = search needs
-
-mul-if2 : tie.Need-mul-if2 Inv-loop μ-loop
-mul-if2 c = search needs
-
-array-read-if2 : tie.Need-array-read-if2 Inv-loop μ-loop
-array-read-if2 c = search needs
-
-mul-processes : tie.Need-mul-processes Inv-loop μ-loop
-mul-processes c = search needs
-
-array-set-from-processes : tie.Need-array-set-from-processes Inv-loop μ-loop
-array-set-from-processes c = search needs
-
-loop-less-2 : tie.Need-loop-less-2 Inv-loop μ-loop
-loop-less-2 c = search needs
 
 loop-again-2 : tie.Need-loop-again-2 Inv-loop μ-loop
 loop-again-2 c = let s = c .before .before .before .before .before .before in
     let x = s .before in
     hold-record (head x .loop .inv) (meets x) (low s) (here x) (is s) _ (at-idle (head x .loop .inv) (meets x) (low s) (here x) (is s) (c .before .before .before .enum-told2 .given .1) _ (counts-are x) (c .if2 .taken))
 
-loop-less-3 : tie.Need-loop-less-3 Inv-loop μ-loop
-loop-less-3 c = search needs
-
 loop-again-3 : tie.Need-loop-again-3 Inv-loop μ-loop
 loop-again-3 c = let s = c .before .before .before .before .before .before in
     let x = s .before in
     hold-still (head x .loop .inv) (meets x) (low s) (here x) (is s) (at-done (head x .loop .inv) (meets x) (low s) (here x) (is s) (c .before .before .before .enum-told2 .given .1) _ (counts-are x) (c .if2 .left))
 
-enum-told-3 : tie.Need-enum-told-3 Inv-loop μ-loop
-enum-told-3 c = search needs
-
-mul-process-2 : tie.Need-mul-process-2 Inv-loop μ-loop
-mul-process-2 c = search needs
-
-array-copy-out-process-2 : tie.Need-array-copy-out-process-2 Inv-loop μ-loop
-array-copy-out-process-2 c = search needs
-
-mul-processes-2 : tie.Need-mul-processes-2 Inv-loop μ-loop
-mul-processes-2 c = search needs
-
-array-set-from-processes-2 : tie.Need-array-set-from-processes-2 Inv-loop μ-loop
-array-set-from-processes-2 c = search needs
-
-loop-less-4 : tie.Need-loop-less-4 Inv-loop μ-loop
-loop-less-4 c = search needs
-
 loop-again-4 : tie.Need-loop-again-4 Inv-loop μ-loop
 loop-again-4 c = let s = c .before .before .before .before in
     let x = s .before in
     hold-record (head x .loop .inv) (meets x) (low s) (here x) (is s) _ (at-N2 (head x .loop .inv) (meets x) (low s) (here x) (is s) (c .before .enum-told3 .given .1))
-
-enum-told-4 : tie.Need-enum-told-4 Inv-loop μ-loop
-enum-told-4 c = search needs
-
-mul-process-3 : tie.Need-mul-process-3 Inv-loop μ-loop
-mul-process-3 c = search needs
-
-array-copy-out-process-3 : tie.Need-array-copy-out-process-3 Inv-loop μ-loop
-array-copy-out-process-3 c = search needs
-
-mul-start : tie.Need-mul-start Inv-loop μ-loop
-mul-start c = search needs
-
-array-read-start : tie.Need-array-read-start Inv-loop μ-loop
-array-read-start c = search needs
 
 start-requires : tie.Need-start-requires Inv-loop μ-loop
 start-requires c κs = let s = c .before .before .before .before in
@@ -348,37 +263,10 @@ start-requires c κs = let s = c .before .before .before .before in
     let d = begins l .pre .lined .few in
     rw (firsts-are x) (omega arith)
 
-mul-processes-3 : tie.Need-mul-processes-3 Inv-loop μ-loop
-mul-processes-3 c = search needs
-
-array-set-from-processes-3 : tie.Need-array-set-from-processes-3 Inv-loop μ-loop
-array-set-from-processes-3 c = search needs
-
-loop-less-5 : tie.Need-loop-less-5 Inv-loop μ-loop
-loop-less-5 c = search needs
-
 loop-again-5 : tie.Need-loop-again-5 Inv-loop μ-loop
 loop-again-5 c = let s = c .before .before .before .before .before in
     let x = s .before in
     hold-record (head x .loop .inv) (meets x) (low s) (here x) (is s) _ (at-N3 (head x .loop .inv) (meets x) (low s) (here x) (is s) (c .before .before .enum-told4 .given .1) _ (firsts-are x) _ (c .start .ensures))
-
-enum-known-status : tie.Need-enum-known-status Inv-loop μ-loop
-enum-known-status c = search needs
-
-mul-process-4 : tie.Need-mul-process-4 Inv-loop μ-loop
-mul-process-4 c = search needs
-
-array-copy-out-process-4 : tie.Need-array-copy-out-process-4 Inv-loop μ-loop
-array-copy-out-process-4 c = search needs
-
-open-row-requires : tie.Need-open-row-requires Inv-loop μ-loop
-open-row-requires c κs = search needs
-
-index16-requires : tie.Need-index16-requires Inv-loop μ-loop
-index16-requires c κs = search needs
-
-number-of-requires : tie.Need-number-of-requires Inv-loop μ-loop
-number-of-requires c κs = search needs
 
 row-at-requires : tie.Need-row-at-requires Inv-loop μ-loop
 row-at-requires c κs = reach (c .before) .row
@@ -386,95 +274,35 @@ row-at-requires c κs = reach (c .before) .row
 word-now-requires : tie.Need-word-now-requires Inv-loop μ-loop
 word-now-requires c κs = reach (c .before .before .before)
 
-after-read-requires : tie.Need-after-read-requires Inv-loop μ-loop
-after-read-requires c κs = search needs
-
-mul-processes-4 : tie.Need-mul-processes-4 Inv-loop μ-loop
-mul-processes-4 c = search needs
-
-array-set-from-processes-4 : tie.Need-array-set-from-processes-4 Inv-loop μ-loop
-array-set-from-processes-4 c = search needs
-
-loop-less-6 : tie.Need-loop-less-6 Inv-loop μ-loop
-loop-less-6 c = search needs
-
 loop-again-6 : tie.Need-loop-again-6 Inv-loop μ-loop
 loop-again-6 c = let b = c .before .before .before .before .before in
     let s = step-at b in
     let x = s .before in
-    hold-record (head x .loop .inv) (meets x) (low s) (here x) (is s) _ (at-A1 (head x .loop .inv) (meets x) (low s) (here x) (is s) (b .before .before .before .before .before .status .given .1) (busy-is b) _ (b .number-of .ensures) (c .before .before .before .before .match2 .keys1) _ _ _ (c .before .before .before .row-at .ensures ∙ row-found b) (word-is b _ (c .before .word-now .ensures)) (c .after-read .ensures))
-
-busy-requires : tie.Need-busy-requires Inv-loop μ-loop
-busy-requires c κs = search needs
-
-cast-bit-of : tie.Need-cast-bit-of Inv-loop μ-loop
-cast-bit-of c = search needs
-
-bit-of-requires : tie.Need-bit-of-requires Inv-loop μ-loop
-bit-of-requires c κs = search needs
-
-mul-processes-5 : tie.Need-mul-processes-5 Inv-loop μ-loop
-mul-processes-5 c = search needs
-
-array-set-from-processes-5 : tie.Need-array-set-from-processes-5 Inv-loop μ-loop
-array-set-from-processes-5 c = search needs
-
-loop-less-7 : tie.Need-loop-less-7 Inv-loop μ-loop
-loop-less-7 c = search needs
+    hold-record (head x .loop .inv) (meets x) (low s) (here x) (is s) _ (at-A1 (head x .loop .inv) (meets x) (low s) (here x) (is s) (b .before .before .before .before .before .status .given .1) (busy-is b) _ (b .stage-number .ensures) (c .before .before .before .before .match2 .keys1) _ _ _ (c .before .before .before .row-at .ensures ∙ row-found b) (word-is b _ (c .before .word-now .ensures)) (c .after-read .ensures))
 
 loop-again-7 : tie.Need-loop-again-7 Inv-loop μ-loop
 loop-again-7 c = let b = c .before .before .before in
     let s = step-at b in
     let x = s .before in
-    hold-record (head x .loop .inv) (meets x) (low s) (here x) (is s) _ (at-A2 (head x .loop .inv) (meets x) (low s) (here x) (is s) (b .before .before .before .before .before .status .given .1) (busy-is b) _ (b .number-of .ensures) (c .before .before .match2 .keys2) _ _ (c .bit-of .ensures) (c .before .busy .ensures))
-
-busy-requires-2 : tie.Need-busy-requires-2 Inv-loop μ-loop
-busy-requires-2 c κs = search needs
-
-mul-processes-6 : tie.Need-mul-processes-6 Inv-loop μ-loop
-mul-processes-6 c = search needs
-
-array-set-from-processes-6 : tie.Need-array-set-from-processes-6 Inv-loop μ-loop
-array-set-from-processes-6 c = search needs
-
-loop-less-8 : tie.Need-loop-less-8 Inv-loop μ-loop
-loop-less-8 c = search needs
+    hold-record (head x .loop .inv) (meets x) (low s) (here x) (is s) _ (at-A2 (head x .loop .inv) (meets x) (low s) (here x) (is s) (b .before .before .before .before .before .status .given .1) (busy-is b) _ (b .stage-number .ensures) (c .before .before .match2 .keys2) _ _ (c .bit-of .ensures) (c .before .busy .ensures))
 
 loop-again-8 : tie.Need-loop-again-8 Inv-loop μ-loop
 loop-again-8 c = let b = c .before .before in
     let s = step-at b in
     let x = s .before in
-    hold-record (head x .loop .inv) (meets x) (low s) (here x) (is s) _ (at-A3 (head x .loop .inv) (meets x) (low s) (here x) (is s) (b .before .before .before .before .before .status .given .1) (busy-is b) _ (b .number-of .ensures) (c .before .match2 .keys3) _ (c .busy2 .ensures))
+    hold-record (head x .loop .inv) (meets x) (low s) (here x) (is s) _ (at-A3 (head x .loop .inv) (meets x) (low s) (here x) (is s) (b .before .before .before .before .before .status .given .1) (busy-is b) _ (b .stage-number .ensures) (c .before .match2 .keys3) _ (c .busy2 .ensures))
 
 word-now-requires-2 : tie.Need-word-now-requires-2 Inv-loop μ-loop
 word-now-requires-2 c κs = reach (c .before .before)
 
-busy-requires-3 : tie.Need-busy-requires-3 Inv-loop μ-loop
-busy-requires-3 c κs = search needs
-
-mul-processes-7 : tie.Need-mul-processes-7 Inv-loop μ-loop
-mul-processes-7 c = search needs
-
-array-set-from-processes-7 : tie.Need-array-set-from-processes-7 Inv-loop μ-loop
-array-set-from-processes-7 c = search needs
-
 row-at-requires-2 : tie.Need-row-at-requires-2 Inv-loop μ-loop
 row-at-requires-2 c κs = reach (c .before .before .before .before .before) .row
 
-cast-swapped-of : tie.Need-cast-swapped-of Inv-loop μ-loop
-cast-swapped-of c = search needs
-
-swapped-of-requires : tie.Need-swapped-of-requires Inv-loop μ-loop
-swapped-of-requires c κs = search needs
-
-put-word-requires : tie.Need-put-word-requires Inv-loop μ-loop
-put-word-requires c κs = reach (c .before .before .before .before .before .before .before .before)
+store-word-requires : tie.Need-store-word-requires Inv-loop μ-loop
+store-word-requires c κs = reach (c .before .before .before .before .before .before .before .before)
 
 cast-entry-of : tie.Need-cast-entry-of Inv-loop μ-loop
 cast-entry-of c = position-fits (turn-at (c .before .before .before .before .before .before .before .before .before .before .before))
-
-entry-of-requires : tie.Need-entry-of-requires Inv-loop μ-loop
-entry-of-requires c κs = search needs
 
 insert-row-requires : tie.Need-insert-row-requires Inv-loop μ-loop
 insert-row-requires c κs = log-room (turn-at (c .before .before .before .before .before .before .before .before .before .before .before .before .before))
@@ -499,38 +327,17 @@ loop-again-9 c = let ir = c .before .before in
     let x = s .before in
     let l = head x in
     hold-won (head x .loop .inv) (meets x) (low s) (here x) (is s) _ _ (eo .entry-of .result) _ _
-    (at-won (head x .loop .inv) (meets x) (low s) (here x) (is s) (b .before .before .before .before .before .status .given .1) (busy-is b) _ (b .number-of .ensures) (wn .before .before .match2 .keys4) _ (word-is b _ (wn .word-now2 .ensures)) (bu .before .if3 .taken) _ (bu .busy3 .ensures) _ (ra .row-at2 .ensures ∙ row-found b) _ (sw .swapped-of .ensures))
+    (at-won (head x .loop .inv) (meets x) (low s) (here x) (is s) (b .before .before .before .before .before .status .given .1) (busy-is b) _ (b .stage-number .ensures) (wn .before .before .match2 .keys4) _ (word-is b _ (wn .word-now2 .ensures)) (bu .before .if3 .taken) _ (bu .busy3 .ensures) _ (ra .row-at2 .ensures ∙ row-found b) _ (sw .swapped-of .ensures))
     (eo .entry-of .ensures ∙ ap (λ (k : ℕ). entry (from l .position + l .loop .i) (me l) k (Is True)) (row-no b))
-    (pw .put-word .ensures ∙ ap (λ (row : Row). set (l .loop .words) (row .word) (sw .swapped-of .result)) (row-found b))
+    (pw .store-word .ensures ∙ ap (λ (row : Row). set (l .loop .words) (row .word) (sw .swapped-of .result)) (row-found b))
     (ir .insert-row .kept .0)
     (ir .insert-row .ensures)
-
-busy-requires-4 : tie.Need-busy-requires-4 Inv-loop μ-loop
-busy-requires-4 c κs = search needs
-
-mul-processes-8 : tie.Need-mul-processes-8 Inv-loop μ-loop
-mul-processes-8 c = search needs
-
-array-set-from-processes-8 : tie.Need-array-set-from-processes-8 Inv-loop μ-loop
-array-set-from-processes-8 c = search needs
-
-loop-less-10 : tie.Need-loop-less-10 Inv-loop μ-loop
-loop-less-10 c = search needs
 
 loop-again-10 : tie.Need-loop-again-10 Inv-loop μ-loop
 loop-again-10 c = let b = c .before .before .before .before .before in
     let s = step-at b in
     let x = s .before in
-    hold-record (head x .loop .inv) (meets x) (low s) (here x) (is s) _ (at-lost (head x .loop .inv) (meets x) (low s) (here x) (is s) (b .before .before .before .before .before .status .given .1) (busy-is b) _ (b .number-of .ensures) (c .before .before .before .before .match2 .keys4) _ (word-is b _ (c .before .before .word-now2 .ensures)) (c .before .if3 .left) _ (c .busy4 .ensures))
-
-busy-requires-5 : tie.Need-busy-requires-5 Inv-loop μ-loop
-busy-requires-5 c κs = search needs
-
-mul-processes-9 : tie.Need-mul-processes-9 Inv-loop μ-loop
-mul-processes-9 c = search needs
-
-array-set-from-processes-9 : tie.Need-array-set-from-processes-9 Inv-loop μ-loop
-array-set-from-processes-9 c = search needs
+    hold-record (head x .loop .inv) (meets x) (low s) (here x) (is s) _ (at-lost (head x .loop .inv) (meets x) (low s) (here x) (is s) (b .before .before .before .before .before .status .given .1) (busy-is b) _ (b .stage-number .ensures) (c .before .before .before .before .match2 .keys4) _ (word-is b _ (c .before .before .word-now2 .ensures)) (c .before .if3 .left) _ (c .busy4 .ensures))
 
 enter-requires : tie.Need-enter-requires Inv-loop μ-loop
 enter-requires c κs = let b = c .before .before .before in
@@ -539,124 +346,49 @@ enter-requires c κs = let b = c .before .before .before in
     let r = log-room x in
     (record { size = begins l .pre .lined .size; whole = begins l .pre .lined .whole; row = subst (λ (k : ℕ). k < n l) (sym (row-no b)) (open-in b); rows = omega arith }, r)
 
-loop-less-11 : tie.Need-loop-less-11 Inv-loop μ-loop
-loop-less-11 c = search needs
-
 loop-again-11 : tie.Need-loop-again-11 Inv-loop μ-loop
 loop-again-11 c = let en = c .before .before in
     let bu = en .before .before in
     let b = bu .before .before in
     let s = step-at b in
     let x = s .before in
-    hold-entered (head x .loop .inv) (meets x) (low s) (here x) (is s) _ _ _ _ _ (at-A5 (head x .loop .inv) (meets x) (low s) (here x) (is s) (b .before .before .before .before .before .status .given .1) (busy-is b) _ (b .number-of .ensures) (bu .before .match2 .keys5) _ (bu .busy5 .ensures)) (row-no b) (row-numbered b) (en .enter .kept .1 .1 .1 .0) (en .enter .ensures)
-
-recovered-of-requires : tie.Need-recovered-of-requires Inv-loop μ-loop
-recovered-of-requires c κs = search needs
-
-busy-requires-6 : tie.Need-busy-requires-6 Inv-loop μ-loop
-busy-requires-6 c κs = search needs
-
-mul-processes-10 : tie.Need-mul-processes-10 Inv-loop μ-loop
-mul-processes-10 c = search needs
-
-array-set-from-processes-10 : tie.Need-array-set-from-processes-10 Inv-loop μ-loop
-array-set-from-processes-10 c = search needs
-
-loop-less-12 : tie.Need-loop-less-12 Inv-loop μ-loop
-loop-less-12 c = search needs
+    hold-entered (head x .loop .inv) (meets x) (low s) (here x) (is s) _ _ _ _ _ (at-A5 (head x .loop .inv) (meets x) (low s) (here x) (is s) (b .before .before .before .before .before .status .given .1) (busy-is b) _ (b .stage-number .ensures) (bu .before .match2 .keys5) _ (bu .busy5 .ensures)) (row-no b) (row-numbered b) (en .enter .kept .1 .1 .1 .0) (en .enter .ensures)
 
 loop-again-12 : tie.Need-loop-again-12 Inv-loop μ-loop
 loop-again-12 c = let b = c .before .before .before in
     let s = step-at b in
     let x = s .before in
-    hold-record (head x .loop .inv) (meets x) (low s) (here x) (is s) _ (at-V1 (head x .loop .inv) (meets x) (low s) (here x) (is s) (b .before .before .before .before .before .status .given .1) (busy-is b) _ (b .number-of .ensures) (c .before .before .match2 .keys6) _ (c .before .recovered-of .ensures) _ (c .busy6 .ensures))
-
-by-checkpoint-requires : tie.Need-by-checkpoint-requires Inv-loop μ-loop
-by-checkpoint-requires c κs = search needs
-
-busy-requires-7 : tie.Need-busy-requires-7 Inv-loop μ-loop
-busy-requires-7 c κs = search needs
-
-mul-processes-11 : tie.Need-mul-processes-11 Inv-loop μ-loop
-mul-processes-11 c = search needs
-
-array-set-from-processes-11 : tie.Need-array-set-from-processes-11 Inv-loop μ-loop
-array-set-from-processes-11 c = search needs
-
-loop-less-13 : tie.Need-loop-less-13 Inv-loop μ-loop
-loop-less-13 c = search needs
+    hold-record (head x .loop .inv) (meets x) (low s) (here x) (is s) _ (at-V1 (head x .loop .inv) (meets x) (low s) (here x) (is s) (b .before .before .before .before .before .status .given .1) (busy-is b) _ (b .stage-number .ensures) (c .before .before .match2 .keys6) _ (c .before .recovered-of .ensures) _ (c .busy6 .ensures))
 
 loop-again-13 : tie.Need-loop-again-13 Inv-loop μ-loop
 loop-again-13 c = let b = c .before .before .before in
     let s = step-at b in
     let x = s .before in
-    hold-record (head x .loop .inv) (meets x) (low s) (here x) (is s) _ (at-V2 (head x .loop .inv) (meets x) (low s) (here x) (is s) (b .before .before .before .before .before .status .given .1) (busy-is b) _ (b .number-of .ensures) (c .before .before .match2 .keys7) _ (c .before .by-checkpoint .ensures) _ (c .busy7 .ensures))
+    hold-record (head x .loop .inv) (meets x) (low s) (here x) (is s) _ (at-V2 (head x .loop .inv) (meets x) (low s) (here x) (is s) (b .before .before .before .before .before .status .given .1) (busy-is b) _ (b .stage-number .ensures) (c .before .before .match2 .keys7) _ (c .before .by-checkpoint .ensures) _ (c .busy7 .ensures))
 
 word-now-requires-3 : tie.Need-word-now-requires-3 Inv-loop μ-loop
 word-now-requires-3 c κs = reach (c .before .before)
-
-by-bit-requires : tie.Need-by-bit-requires Inv-loop μ-loop
-by-bit-requires c κs = search needs
-
-busy-requires-8 : tie.Need-busy-requires-8 Inv-loop μ-loop
-busy-requires-8 c κs = search needs
-
-mul-processes-12 : tie.Need-mul-processes-12 Inv-loop μ-loop
-mul-processes-12 c = search needs
-
-array-set-from-processes-12 : tie.Need-array-set-from-processes-12 Inv-loop μ-loop
-array-set-from-processes-12 c = search needs
-
-loop-less-14 : tie.Need-loop-less-14 Inv-loop μ-loop
-loop-less-14 c = search needs
 
 loop-again-14 : tie.Need-loop-again-14 Inv-loop μ-loop
 loop-again-14 c = let b = c .before .before .before .before .before in
     let s = step-at b in
     let x = s .before in
-    hold-record (head x .loop .inv) (meets x) (low s) (here x) (is s) _ (at-V3 (head x .loop .inv) (meets x) (low s) (here x) (is s) (b .before .before .before .before .before .status .given .1) (busy-is b) _ (b .number-of .ensures) (c .before .before .before .before .match2 .keys8) _ (word-is b _ (c .before .before .word-now3 .ensures)) _ (c .before .by-bit .ensures) _ (c .busy8 .ensures))
-
-busy-requires-9 : tie.Need-busy-requires-9 Inv-loop μ-loop
-busy-requires-9 c κs = search needs
-
-mul-processes-13 : tie.Need-mul-processes-13 Inv-loop μ-loop
-mul-processes-13 c = search needs
-
-array-set-from-processes-13 : tie.Need-array-set-from-processes-13 Inv-loop μ-loop
-array-set-from-processes-13 c = search needs
-
-loop-less-15 : tie.Need-loop-less-15 Inv-loop μ-loop
-loop-less-15 c = search needs
+    hold-record (head x .loop .inv) (meets x) (low s) (here x) (is s) _ (at-V3 (head x .loop .inv) (meets x) (low s) (here x) (is s) (b .before .before .before .before .before .status .given .1) (busy-is b) _ (b .stage-number .ensures) (c .before .before .before .before .match2 .keys8) _ (word-is b _ (c .before .before .word-now3 .ensures)) _ (c .before .by-bit .ensures) _ (c .busy8 .ensures))
 
 loop-again-15 : tie.Need-loop-again-15 Inv-loop μ-loop
 loop-again-15 c = let b = c .before .before in
     let s = step-at b in
     let x = s .before in
-    hold-record (head x .loop .inv) (meets x) (low s) (here x) (is s) _ (at-V4 (head x .loop .inv) (meets x) (low s) (here x) (is s) (b .before .before .before .before .before .status .given .1) (busy-is b) _ (b .number-of .ensures) (c .before .match2 .keys9) _ (c .busy9 .ensures))
-
-reply-of-requires : tie.Need-reply-of-requires Inv-loop μ-loop
-reply-of-requires c κs = search needs
-
-mul-processes-14 : tie.Need-mul-processes-14 Inv-loop μ-loop
-mul-processes-14 c = search needs
-
-array-set-from-processes-14 : tie.Need-array-set-from-processes-14 Inv-loop μ-loop
-array-set-from-processes-14 c = search needs
+    hold-record (head x .loop .inv) (meets x) (low s) (here x) (is s) _ (at-V4 (head x .loop .inv) (meets x) (low s) (here x) (is s) (b .before .before .before .before .before .status .given .1) (busy-is b) _ (b .stage-number .ensures) (c .before .match2 .keys9) _ (c .busy9 .ensures))
 
 cast-entry-of-2 : tie.Need-cast-entry-of-2 Inv-loop μ-loop
 cast-entry-of-2 c = position-fits (turn-at (c .before .before))
-
-entry-of-requires-2 : tie.Need-entry-of-requires-2 Inv-loop μ-loop
-entry-of-requires-2 c κs = search needs
 
 add-answer-requires : tie.Need-add-answer-requires Inv-loop μ-loop
 add-answer-requires c κs = answers-room (turn-at (c .before .before .before .before))
 
 add-answer-rows : tie.Need-add-answer-rows Inv-loop μ-loop
 add-answer-rows c = answers-fit (turn-at (c .before .before .before .before .before .before .before))
-
-loop-less-16 : tie.Need-loop-less-16 Inv-loop μ-loop
-loop-less-16 c = search needs
 
 loop-again-16 : tie.Need-loop-again-16 Inv-loop μ-loop
 loop-again-16 c = let aa = c .before .before in
@@ -668,85 +400,25 @@ loop-again-16 c = let aa = c .before .before in
     let x = s .before in
     let l = head x in
     hold-answer (head x .loop .inv) (meets x) (low s) (here x) (is s) _ _ (eo .entry-of2 .result) _
-    (at-reply (head x .loop .inv) (meets x) (low s) (here x) (is s) (b .before .before .before .before .before .status .given .1) (busy-is b) _ (b .number-of .ensures) (rs .match2 .rest .0 .0 .0 .0 .0 .0 .0 .0 .1) (rs .match2 .rest .0 .0 .0 .0 .0 .0 .0 .1) (rs .match2 .rest .0 .0 .0 .0 .0 .0 .1) (rs .match2 .rest .0 .0 .0 .0 .0 .1) (rs .match2 .rest .0 .0 .0 .0 .1) (rs .match2 .rest .0 .0 .0 .1) (rs .match2 .rest .0 .0 .1) (rs .match2 .rest .0 .1) (rs .match2 .rest .1) _ (rp .reply-of .ensures))
+    (at-reply (head x .loop .inv) (meets x) (low s) (here x) (is s) (b .before .before .before .before .before .status .given .1) (busy-is b) _ (b .stage-number .ensures) (rs .match2 .rest .0 .0 .0 .0 .0 .0 .0 .0 .1) (rs .match2 .rest .0 .0 .0 .0 .0 .0 .0 .1) (rs .match2 .rest .0 .0 .0 .0 .0 .0 .1) (rs .match2 .rest .0 .0 .0 .0 .0 .1) (rs .match2 .rest .0 .0 .0 .0 .1) (rs .match2 .rest .0 .0 .0 .1) (rs .match2 .rest .0 .0 .1) (rs .match2 .rest .0 .1) (rs .match2 .rest .1) _ (rp .reply-of .ensures))
     (eo .entry-of2 .ensures ∙ ap (λ (k : ℕ). entry (from l .position + l .loop .i) (me l) k (rp .reply-of .result)) (row-no b))
     (aa .add-answer .kept .0)
     (aa .add-answer .ensures)
-
-mul-process-5 : tie.Need-mul-process-5 Inv-loop μ-loop
-mul-process-5 c = search needs
-
-array-copy-out-process-5 : tie.Need-array-copy-out-process-5 Inv-loop μ-loop
-array-copy-out-process-5 c = search needs
-
-mul-processes-15 : tie.Need-mul-processes-15 Inv-loop μ-loop
-mul-processes-15 c = search needs
-
-array-set-from-processes-15 : tie.Need-array-set-from-processes-15 Inv-loop μ-loop
-array-set-from-processes-15 c = search needs
-
-loop-less-17 : tie.Need-loop-less-17 Inv-loop μ-loop
-loop-less-17 c = search needs
 
 loop-again-17 : tie.Need-loop-again-17 Inv-loop μ-loop
 loop-again-17 c = let x = c .before .before .before in
     let k = c .before .match3 .keys1 in
     hold-crash (head x .loop .inv) (meets x) (let e : byte (head x) / 16 ≡ 1 = k in omega arith) (here x) k
 
-mul-named-2 : tie.Need-mul-named-2 Inv-loop μ-loop
-mul-named-2 c = search needs
-
-array-copy-out-named-2 : tie.Need-array-copy-out-named-2 Inv-loop μ-loop
-array-copy-out-named-2 c = search needs
-
-enum-told-5 : tie.Need-enum-told-5 Inv-loop μ-loop
-enum-told-5 c = search needs
-
-mul-process-6 : tie.Need-mul-process-6 Inv-loop μ-loop
-mul-process-6 c = search needs
-
-array-copy-out-process-6 : tie.Need-array-copy-out-process-6 Inv-loop μ-loop
-array-copy-out-process-6 c = search needs
-
-enum-told-6 : tie.Need-enum-told-6 Inv-loop μ-loop
-enum-told-6 c = search needs
-
-mul-processes-16 : tie.Need-mul-processes-16 Inv-loop μ-loop
-mul-processes-16 c = search needs
-
-array-set-from-processes-16 : tie.Need-array-set-from-processes-16 Inv-loop μ-loop
-array-set-from-processes-16 c = search needs
-
-loop-less-18 : tie.Need-loop-less-18 Inv-loop μ-loop
-loop-less-18 c = search needs
-
 loop-again-18 : tie.Need-loop-again-18 Inv-loop μ-loop
 loop-again-18 c = let x = c .before .before .before .before .before .before .before .before in
     let k = c .before .before .before .before .before .before .match3 .keys2 in
     hold-wake-idle (head x .loop .inv) (meets x) (let e : byte (head x) / 16 ≡ 2 = k in omega arith) (here x) k (c .before .before .before .enum-told5 .given .1) (c .enum-told6 .given .1)
 
-enum-told-7 : tie.Need-enum-told-7 Inv-loop μ-loop
-enum-told-7 c = search needs
-
-busy-requires-10 : tie.Need-busy-requires-10 Inv-loop μ-loop
-busy-requires-10 c κs = search needs
-
-mul-processes-17 : tie.Need-mul-processes-17 Inv-loop μ-loop
-mul-processes-17 c = search needs
-
-array-set-from-processes-17 : tie.Need-array-set-from-processes-17 Inv-loop μ-loop
-array-set-from-processes-17 c = search needs
-
-loop-less-19 : tie.Need-loop-less-19 Inv-loop μ-loop
-loop-less-19 c = search needs
-
 loop-again-19 : tie.Need-loop-again-19 Inv-loop μ-loop
 loop-again-19 c = let x = c .before .before .before .before .before .before .before .before .before in
     let k = c .before .before .before .before .before .before .before .match3 .keys2 in
     hold-wake-busy (head x .loop .inv) (meets x) (let e : byte (head x) / 16 ≡ 2 = k in omega arith) (here x) k (c .before .before .before .before .enum-told5 .given .1) _ (c .before .enum-told7 .given .1) _ (c .busy10 .ensures)
-
-loop-less-20 : tie.Need-loop-less-20 Inv-loop μ-loop
-loop-less-20 c = search needs
 
 loop-again-20 : tie.Need-loop-again-20 Inv-loop μ-loop
 loop-again-20 c = let x = c .before .before .before .before in
@@ -756,27 +428,15 @@ loop-again-20 c = let x = c .before .before .before .before in
 crash-first-requires : tie.Need-crash-first-requires Inv-loop μ-loop
 crash-first-requires c κs = begins (head (c .before .before)) .pre .present
 
-loop-less-21 : tie.Need-loop-less-21 Inv-loop μ-loop
-loop-less-21 c = search needs
-
 loop-again-21 : tie.Need-loop-again-21 Inv-loop μ-loop
 loop-again-21 c = let x = c .before .before .before in
     hold-all (head x .loop .inv) (meets x) (c .before .match3 .keys3) _ (c .crash-first .ensures)
 
-loop-less-22 : tie.Need-loop-less-22 Inv-loop μ-loop
-loop-less-22 c = search needs
-
 loop-again-22 : tie.Need-loop-again-22 Inv-loop μ-loop
 loop-again-22 c = nothing (c .before)
 
-loop-less-23 : tie.Need-loop-less-23 Inv-loop μ-loop
-loop-less-23 c = search needs
-
 loop-again-23 : tie.Need-loop-again-23 Inv-loop μ-loop
 loop-again-23 c = nothing (c .before .before)
-
-loop-less-24 : tie.Need-loop-less-24 Inv-loop μ-loop
-loop-less-24 c = search needs
 
 loop-again-24 : tie.Need-loop-again-24 Inv-loop μ-loop
 loop-again-24 c = nothing (c .before .before)
@@ -804,162 +464,162 @@ run-bytes-spec =
     (tie.spec
     Inv-loop
     μ-loop
-    counts-of-requires
+    (λ c κs. search needs)
     firsts-of-requires
     loop-holds
-    shared-slice-read-byte
+    (λ c. search needs)
     add-position
     cast-position
-    index8-requires
-    add-i
-    mul-named
-    array-copy-out-named
-    enum-told
-    loop-less
+    (λ c κs. search needs)
+    (λ c. search needs)
+    (λ c. search needs)
+    (λ c. search needs)
+    (λ c. search needs)
+    (λ c. search needs)
     loop-again
-    enum-told-2
-    mul-process
-    array-copy-out-process
-    mul-if2
-    array-read-if2
-    mul-processes
-    array-set-from-processes
-    loop-less-2
+    (λ c. search needs)
+    (λ c. search needs)
+    (λ c. search needs)
+    (λ c. search needs)
+    (λ c. search needs)
+    (λ c. search needs)
+    (λ c. search needs)
+    (λ c. search needs)
     loop-again-2
-    loop-less-3
+    (λ c. search needs)
     loop-again-3
-    enum-told-3
-    mul-process-2
-    array-copy-out-process-2
-    mul-processes-2
-    array-set-from-processes-2
-    loop-less-4
+    (λ c. search needs)
+    (λ c. search needs)
+    (λ c. search needs)
+    (λ c. search needs)
+    (λ c. search needs)
+    (λ c. search needs)
     loop-again-4
-    enum-told-4
-    mul-process-3
-    array-copy-out-process-3
-    mul-start
-    array-read-start
+    (λ c. search needs)
+    (λ c. search needs)
+    (λ c. search needs)
+    (λ c. search needs)
+    (λ c. search needs)
     start-requires
-    mul-processes-3
-    array-set-from-processes-3
-    loop-less-5
+    (λ c. search needs)
+    (λ c. search needs)
+    (λ c. search needs)
     loop-again-5
-    enum-known-status
-    mul-process-4
-    array-copy-out-process-4
-    open-row-requires
-    index16-requires
-    number-of-requires
+    (λ c. search needs)
+    (λ c. search needs)
+    (λ c. search needs)
+    (λ c κs. search needs)
+    (λ c κs. search needs)
+    (λ c κs. search needs)
     row-at-requires
     word-now-requires
-    after-read-requires
-    mul-processes-4
-    array-set-from-processes-4
-    loop-less-6
+    (λ c κs. search needs)
+    (λ c. search needs)
+    (λ c. search needs)
+    (λ c. search needs)
     loop-again-6
-    busy-requires
-    cast-bit-of
-    bit-of-requires
-    mul-processes-5
-    array-set-from-processes-5
-    loop-less-7
+    (λ c κs. search needs)
+    (λ c. search needs)
+    (λ c κs. search needs)
+    (λ c. search needs)
+    (λ c. search needs)
+    (λ c. search needs)
     loop-again-7
-    busy-requires-2
-    mul-processes-6
-    array-set-from-processes-6
-    loop-less-8
+    (λ c κs. search needs)
+    (λ c. search needs)
+    (λ c. search needs)
+    (λ c. search needs)
     loop-again-8
     word-now-requires-2
-    busy-requires-3
-    mul-processes-7
-    array-set-from-processes-7
+    (λ c κs. search needs)
+    (λ c. search needs)
+    (λ c. search needs)
     row-at-requires-2
-    cast-swapped-of
-    swapped-of-requires
-    put-word-requires
+    (λ c. search needs)
+    (λ c κs. search needs)
+    store-word-requires
     cast-entry-of
-    entry-of-requires
+    (λ c κs. search needs)
     insert-row-requires
     add-log-rows
     loop-less-9
     loop-again-9
-    busy-requires-4
-    mul-processes-8
-    array-set-from-processes-8
-    loop-less-10
+    (λ c κs. search needs)
+    (λ c. search needs)
+    (λ c. search needs)
+    (λ c. search needs)
     loop-again-10
-    busy-requires-5
-    mul-processes-9
-    array-set-from-processes-9
+    (λ c κs. search needs)
+    (λ c. search needs)
+    (λ c. search needs)
     enter-requires
-    loop-less-11
+    (λ c. search needs)
     loop-again-11
-    recovered-of-requires
-    busy-requires-6
-    mul-processes-10
-    array-set-from-processes-10
-    loop-less-12
+    (λ c κs. search needs)
+    (λ c κs. search needs)
+    (λ c. search needs)
+    (λ c. search needs)
+    (λ c. search needs)
     loop-again-12
-    by-checkpoint-requires
-    busy-requires-7
-    mul-processes-11
-    array-set-from-processes-11
-    loop-less-13
+    (λ c κs. search needs)
+    (λ c κs. search needs)
+    (λ c. search needs)
+    (λ c. search needs)
+    (λ c. search needs)
     loop-again-13
     word-now-requires-3
-    by-bit-requires
-    busy-requires-8
-    mul-processes-12
-    array-set-from-processes-12
-    loop-less-14
+    (λ c κs. search needs)
+    (λ c κs. search needs)
+    (λ c. search needs)
+    (λ c. search needs)
+    (λ c. search needs)
     loop-again-14
-    busy-requires-9
-    mul-processes-13
-    array-set-from-processes-13
-    loop-less-15
+    (λ c κs. search needs)
+    (λ c. search needs)
+    (λ c. search needs)
+    (λ c. search needs)
     loop-again-15
-    reply-of-requires
-    mul-processes-14
-    array-set-from-processes-14
+    (λ c κs. search needs)
+    (λ c. search needs)
+    (λ c. search needs)
     cast-entry-of-2
-    entry-of-requires-2
+    (λ c κs. search needs)
     add-answer-requires
     add-answer-rows
-    loop-less-16
+    (λ c. search needs)
     loop-again-16
-    mul-process-5
-    array-copy-out-process-5
-    mul-processes-15
-    array-set-from-processes-15
-    loop-less-17
+    (λ c. search needs)
+    (λ c. search needs)
+    (λ c. search needs)
+    (λ c. search needs)
+    (λ c. search needs)
     loop-again-17
-    mul-named-2
-    array-copy-out-named-2
-    enum-told-5
-    mul-process-6
-    array-copy-out-process-6
-    enum-told-6
-    mul-processes-16
-    array-set-from-processes-16
-    loop-less-18
+    (λ c. search needs)
+    (λ c. search needs)
+    (λ c. search needs)
+    (λ c. search needs)
+    (λ c. search needs)
+    (λ c. search needs)
+    (λ c. search needs)
+    (λ c. search needs)
+    (λ c. search needs)
     loop-again-18
-    enum-told-7
-    busy-requires-10
-    mul-processes-17
-    array-set-from-processes-17
-    loop-less-19
+    (λ c. search needs)
+    (λ c κs. search needs)
+    (λ c. search needs)
+    (λ c. search needs)
+    (λ c. search needs)
     loop-again-19
-    loop-less-20
+    (λ c. search needs)
     loop-again-20
     crash-first-requires
-    loop-less-21
+    (λ c. search needs)
     loop-again-21
-    loop-less-22
+    (λ c. search needs)
     loop-again-22
-    loop-less-23
+    (λ c. search needs)
     loop-again-23
-    loop-less-24
+    (λ c. search needs)
     loop-again-24
     add-t297
     same-length

@@ -1,5 +1,4 @@
 -- `after_read` meets its contract: the two tests in order.
--- Assumes nothing.
 use borrow.Author.Tests.{eq-eqb, ne-eqb}
 use borrow.Author.Needs.{needs}
 use Rattle.machine.proofs.operation.after_read.Statement.{statement}

@@ -1,10 +1,9 @@
 -- `false_at` meets its contract: whether the value read was old.
--- Assumes nothing.
 use Prim.Native.Nat.{ℕ, _*_}
 use mathlib.Core.Path.{ap, sym, subst, _∙_}
 use denote.Ref.{now}
 use Rattle.runfile.specs.Layout.{rowOfTable, HasRow}
-use Rattle.runfile.specs.Lines.{has-row}
+use Rattle.runfile.specs.Shares.{has-row}
 use Rattle.runfile.specs.Operations.{rowsFrom}
 use Rattle.rows.specs.Buffers.{rowsOf}
 use Rattle.machine.proofs.Entering.{lost-at, other-at}
@@ -12,28 +11,10 @@ use borrow.Author.Needs.{needs}
 use Rattle.machine.proofs.operation.false_at.Statement.{statement}
 use Rattle.machine.proofs.operation.false_at.Tie as tie
 
-index16-requires : tie.Need-index16-requires
-index16-requires c κs = search needs
-
 row-at-requires : tie.Need-row-at-requires
 row-at-requires c κs = let s = c .before .before .before in
     let a = s .args in
     subst (λ (k : ℕ). HasRow (a .stride) (now (a .table)) k) (sym (c .index16 .ensures .0)) (has-row _ _ _ _ (s .pre .size) (s .pre .whole) (s .pre .row))
-
-cast-read-at : tie.Need-cast-read-at
-cast-read-at c = search needs
-
-cast-tried-at : tie.Need-cast-tried-at
-cast-tried-at c = search needs
-
-value-of-requires : tie.Need-value-of-requires
-value-of-requires c κs = search needs
-
-cast-if1 : tie.Need-cast-if1
-cast-if1 c = search needs
-
-first-swap-after-requires : tie.Need-first-swap-after-requires
-first-swap-after-requires c κs = search needs
 
 returns : tie.Need-returns
 returns c = let v = c .before .before .before in
@@ -51,12 +32,12 @@ pub false-at-spec : {M : Type 1} → statement M
 false-at-spec =
     tie.close
     (tie.spec
-    index16-requires
+    (λ c κs. search needs)
     row-at-requires
-    cast-read-at
-    cast-tried-at
-    value-of-requires
-    cast-if1
-    first-swap-after-requires
+    (λ c. search needs)
+    (λ c. search needs)
+    (λ c κs. search needs)
+    (λ c. search needs)
+    (λ c κs. search needs)
     returns
     returns-2)

@@ -1,5 +1,4 @@
 -- `crash_first` meets its contract. Invariant: before turn i the first i records are down, the others as they were. Measure: the records left.
--- Assumes nothing.
 use mathlib.Core.Path.{_≡_, refl, ap, _∙_}
 use Prim.Native.Nat.{_≤_, _-_}
 use native.Mathlib.Omega.{arith}
@@ -18,24 +17,6 @@ abbrev μ-loop : tie.MeasureT-loop
 
 loop-holds : tie.Need-loop-holds Inv-loop μ-loop
 loop-holds c = (search needs, search needs, search needs, search needs, refl)
-
-mul-process : tie.Need-mul-process Inv-loop μ-loop
-mul-process c = search needs
-
-array-copy-out-process : tie.Need-array-copy-out-process Inv-loop μ-loop
-array-copy-out-process c = search needs
-
-mul-down : tie.Need-mul-down Inv-loop μ-loop
-mul-down c = search needs
-
-array-set-from-down : tie.Need-array-set-from-down Inv-loop μ-loop
-array-set-from-down c = search needs
-
-add-i : tie.Need-add-i Inv-loop μ-loop
-add-i c = search needs
-
-loop-less : tie.Need-loop-less Inv-loop μ-loop
-loop-less c = search needs
 
 loop-again : tie.Need-loop-again Inv-loop μ-loop
 loop-again c =
@@ -57,11 +38,11 @@ crash-first-spec =
     Inv-loop
     μ-loop
     loop-holds
-    mul-process
-    array-copy-out-process
-    mul-down
-    array-set-from-down
-    add-i
-    loop-less
+    (λ c. search needs)
+    (λ c. search needs)
+    (λ c. search needs)
+    (λ c. search needs)
+    (λ c. search needs)
+    (λ c. search needs)
     loop-again
     returns)

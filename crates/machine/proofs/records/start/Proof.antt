@@ -1,5 +1,4 @@
 -- `start` meets its contract: the record is the definition's, field by field.
--- Assumes nothing.
 use native.Mathlib.Numerals.{add-one}
 use borrow.Author.Needs.{needs}
 use Rattle.machine.proofs.records.start.Statement.{statement}

@@ -1,5 +1,4 @@
 -- `by_bit` meets its contract: the four cases of the two bits.
--- Assumes nothing.
 use mathlib.Core.Path.{sym, _∙_}
 use borrow.Author.Needs.{needs}
 use Rattle.machine.proofs.recovery.by_bit.Statement.{statement}

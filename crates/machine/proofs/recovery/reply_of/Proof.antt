@@ -1,5 +1,4 @@
 -- `reply_of` meets its contract, by the number.
--- Assumes nothing.
 use borrow.Author.Tests.{ne-eqb}
 use Rattle.machine.proofs.recovery.reply_of.Statement.{statement}
 use Rattle.machine.proofs.recovery.reply_of.Tie as tie

@@ -1,5 +1,4 @@
 -- `entry_of` meets its contract: verdict and value are what is said.
--- Assumes nothing.
 use borrow.Author.Needs.{needs}
 use Rattle.machine.proofs.said.entry_of.Statement.{statement}
 use Rattle.machine.proofs.said.entry_of.Tie as tie

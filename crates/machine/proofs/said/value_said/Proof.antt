@@ -1,28 +1,12 @@
 -- `value_said` meets its contract: by what is said.
--- Assumes nothing.
 use Rattle.machine.specs.Steps.{spoken}
 use borrow.Author.Needs.{needs}
 use Rattle.machine.proofs.said.value_said.Statement.{statement}
 use Rattle.machine.proofs.said.value_said.Tie as tie
 
-enum-known-said : tie.Need-enum-known-said
-enum-known-said c = search needs
-
-enum-told : tie.Need-enum-told
-enum-told c = search needs
-
 returns : tie.Need-returns
 unfolding spoken
 returns c = simp (c .enum-told .given .1)
-
-enum-told-2 : tie.Need-enum-told-2
-enum-told-2 c = search needs
-
-enum-told-3 : tie.Need-enum-told-3
-enum-told-3 c = search needs
-
-enum-known-answer : tie.Need-enum-known-answer
-enum-known-answer c = search needs
 
 returns-2 : tie.Need-returns-2
 unfolding spoken
@@ -40,12 +24,12 @@ pub value-said-spec : {M : Type 1} → statement M
 value-said-spec =
     tie.close
     (tie.spec
-    enum-known-said
-    enum-told
+    (λ c. search needs)
+    (λ c. search needs)
     returns
-    enum-told-2
-    enum-told-3
-    enum-known-answer
+    (λ c. search needs)
+    (λ c. search needs)
+    (λ c. search needs)
     returns-2
     returns-3
     returns-4)

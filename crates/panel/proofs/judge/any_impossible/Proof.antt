@@ -1,5 +1,4 @@
 -- `any_impossible` meets its contract. Invariant: what the search finds from p on is what the whole search finds. Measure: the records left.
--- Assumes nothing.
 use Prim.Native.Nat.{_-_, _≤_, _<_}
 use mathlib.Core.Path.{_≡_, refl, sym, ap, _∙_}
 use mathlib.Core.List.{List}
@@ -9,7 +8,7 @@ use Rattle.runfile.specs.declared.Row.{Row}
 use denote.Ref.{now}
 use Rattle.runfile.specs.Operations.{rowsFrom, first, count}
 use Rattle.runfile.specs.OperationLaws.{length-rowsFrom}
-use Rattle.runfile.specs.Lines.{last-fits, first-at, sum-fits}
+use Rattle.runfile.specs.Shares.{last-fits, first-at, sum-fits}
 use Rattle.machine.specs.Records.{nobody}
 use Rattle.panel.specs.Possible.{impossible, anyImpossible}
 use Rattle.panel.proofs.Ors.{or-hit, or-miss}
@@ -47,45 +46,17 @@ tested : (c : tie.After-is-impossible Inv-loop μ-loop) → let l = c .before .b
 unfolding impossible
 tested c = let l = c .before .before .before in rw (firsts-are l (low (c .before)), counts-are l (low (c .before))) at (c .is-impossible .ensures)
 
--- src/judge.rt:46:18
 counts-of-requires : tie.Need-counts-of-requires Inv-loop μ-loop
 counts-of-requires c κs = c .before .pre .1
 
--- src/judge.rt:47:18
 firsts-of-requires : tie.Need-firsts-of-requires Inv-loop μ-loop
 firsts-of-requires c κs =
     let st = c .before .before in
     sum-fits (st .args .stride) (now (st .args .table)) (st .args .n) (c .counts-of .result) (st .pre .1 .few) (c .counts-of .ensures)
 
--- src/judge.rt:49:5
 loop-holds : tie.Need-loop-holds Inv-loop μ-loop
 loop-holds c = (search needs, ap (anyImpossible (rowsFrom (c .before .before .before .args .stride) (now (c .before .before .before .args .table)) 0 (c .before .before .before .args .n)) _ 0) (omega arith))
 
--- src/judge.rt:50:23
-mul-process : tie.Need-mul-process Inv-loop μ-loop
-mul-process c = search needs
-
--- src/judge.rt:50:23
-array-copy-out-process : tie.Need-array-copy-out-process Inv-loop μ-loop
-array-copy-out-process c = search needs
-
--- src/judge.rt:51:36
-mul-is-impossible : tie.Need-mul-is-impossible Inv-loop μ-loop
-mul-is-impossible c = search needs
-
--- src/judge.rt:51:36
-array-read-is-impossible : tie.Need-array-read-is-impossible Inv-loop μ-loop
-array-read-is-impossible c = search needs
-
--- src/judge.rt:51:47
-mul-is-impossible-2 : tie.Need-mul-is-impossible-2 Inv-loop μ-loop
-mul-is-impossible-2 c = search needs
-
--- src/judge.rt:51:47
-array-read-is-impossible-2 : tie.Need-array-read-is-impossible-2 Inv-loop μ-loop
-array-read-is-impossible-2 c = search needs
-
--- src/judge.rt:51:12
 is-impossible-requires : tie.Need-is-impossible-requires Inv-loop μ-loop
 is-impossible-requires c κs = let l = c .before .before in
     let st = l .before .before .before .before in
@@ -93,27 +64,16 @@ is-impossible-requires c κs = let l = c .before .before in
     let g = length-rowsFrom (st .args .stride) (now (st .args .table)) 0 (st .args .n) in
     (st .pre .1 .size, st .pre .1 .whole, rw (firsts-are l (low c), counts-are l (low c)) (omega arith))
 
--- src/judge.rt:52:13
 returns : tie.Need-returns Inv-loop μ-loop
 returns c = let l = c .before .before .before .before in
     let t = c .before .before .before .loop-test .taken in
     or-hit _ _ (sym (tested (c .before)) ∙ c .if1 .taken) ∙ sym (l .loop .inv .1 ∙ any-turn (rowsAt l) _ (l .loop .p) _ t)
 
--- src/judge.rt:54:9
-add-p : tie.Need-add-p Inv-loop μ-loop
-add-p c = search needs
-
--- src/judge.rt:49:5
-loop-less : tie.Need-loop-less Inv-loop μ-loop
-loop-less c = search needs
-
--- src/judge.rt:49:5
 loop-again : tie.Need-loop-again Inv-loop μ-loop
 loop-again c = let l = c .before .before .before .before in
     let t = c .before .before .before .loop-test .taken in
     (search needs, l .loop .inv .1 ∙ any-turn (rowsAt l) _ (l .loop .p) _ t ∙ sym (or-miss _ _ _ (sym (tested (c .before)) ∙ c .if1 .left) refl))
 
--- src/judge.rt:42:1
 returns-2 : tie.Need-returns-2 Inv-loop μ-loop
 unfolding anyImpossible
 returns-2 c = let l = c .before in
@@ -130,15 +90,15 @@ any-impossible-spec =
     counts-of-requires
     firsts-of-requires
     loop-holds
-    mul-process
-    array-copy-out-process
-    mul-is-impossible
-    array-read-is-impossible
-    mul-is-impossible-2
-    array-read-is-impossible-2
+    (λ c. search needs)
+    (λ c. search needs)
+    (λ c. search needs)
+    (λ c. search needs)
+    (λ c. search needs)
+    (λ c. search needs)
     is-impossible-requires
     returns
-    add-p
-    loop-less
+    (λ c. search needs)
+    (λ c. search needs)
     loop-again
     returns-2)

@@ -1,5 +1,4 @@
 -- `is_impossible` meets its contract: a record that is not misplaced has no row open, and then its kind makes no difference, or one of the table.
--- Assumes nothing.
 use Prim.Native.Nat.{ℕ, _+_, _*_, _≤_, _<_}
 use mathlib.Core.Path.{_≡_, refl, sym, subst, _∙_, ap}
 use mathlib.Core.Bool.{Bool, true, false, not, _||_, true≢false}
@@ -8,12 +7,12 @@ use lib.Dec.{eqb, ltb}
 use borrow.Author.Tests.{eqb-true, ltb-false}
 use denote.Ref.{now}
 use Rattle.runfile.specs.Layout.{rowOfTable, HasRow}
-use Rattle.runfile.specs.Lines.{has-row}
+use Rattle.runfile.specs.Shares.{has-row}
 use Rattle.runfile.specs.Operations.{rowsFrom, rowNumbered, reads}
 use Rattle.machine.specs.Records.{rowOpen}
 use Rattle.machine.specs.Reach.{row-is}
 use Rattle.machine.specs.declared.Process.{Process}
-use Rattle.machine.specs.declared.Opened.the-variants.{Nothing as Closed, Row as Open}
+use Rattle.machine.specs.declared.Opened.the-variants.{Closed, Open}
 use Rattle.panel.specs.Possible.{misplaced, misdone}
 use Rattle.panel.proofs.Ors.{or-hit, or-miss}
 use borrow.Author.Needs.{needs}
@@ -43,31 +42,9 @@ no-kind : (a b : Bool) (r : Process) → r .opened ≡ Closed → misdone a r �
 unfolding misdone
 no-kind a b r o = rw o
 
--- src/judge.rt:27:8
-misplaced-requires : tie.Need-misplaced-requires
-misplaced-requires c κs = search needs
-
--- src/judge.rt:28:9
 returns : tie.Need-returns
 returns c = or-hit _ _ (sym (c .before .misplaced .ensures) ∙ c .if1 .taken)
 
--- src/judge.rt:33:28
-enum-told : tie.Need-enum-told
-enum-told c = search needs
-
--- src/judge.rt:33:28
-misdone-requires : tie.Need-misdone-requires
-misdone-requires c κs = search needs
-
--- src/judge.rt:34:21
-enum-known-opened : tie.Need-enum-known-opened
-enum-known-opened c = search needs
-
--- src/judge.rt:35:46
-index16-requires : tie.Need-index16-requires
-index16-requires c κs = search needs
-
--- src/judge.rt:35:17
 row-at-requires : tie.Need-row-at-requires
 row-at-requires c κs = let m = c .before .before .before .before in
     let st = m .before .before .before in
@@ -75,16 +52,10 @@ row-at-requires c κs = let m = c .before .before .before .before in
     let b = st .pre .2 in
     subst (λ (k : ℕ). HasRow (st .args .stride) (now (st .args .table)) k) (sym (c .index16 .ensures .0)) (has-row _ _ _ _ (st .pre .0) (st .pre .1) (omega arith))
 
--- src/judge.rt:36:13
-misdone-requires-2 : tie.Need-misdone-requires-2
-misdone-requires-2 c κs = search needs
-
--- src/judge.rt:23:1
 returns-2 : tie.Need-returns-2
 returns-2 c = let m = c .before .before .before in
     or-miss _ _ _ (sym (m .before .misplaced .ensures) ∙ m .if1 .left) (c .misdone .ensures ∙ no-kind _ _ _ (c .before .enum-told .given .1))
 
--- src/judge.rt:23:1
 returns-3 : tie.Need-returns-3
 returns-3 c = let o = c .before .before .before .before .before in
     let m = o .before .before in
@@ -103,13 +74,13 @@ pub is-impossible-spec : {M : Type 1} → statement M
 is-impossible-spec =
     tie.close
     (tie.spec
-    misplaced-requires
+    (λ c κs. search needs)
     returns
-    enum-told
-    misdone-requires
-    enum-known-opened
-    index16-requires
+    (λ c. search needs)
+    (λ c κs. search needs)
+    (λ c. search needs)
+    (λ c κs. search needs)
     row-at-requires
-    misdone-requires-2
+    (λ c κs. search needs)
     returns-2
     returns-3)

@@ -1,5 +1,4 @@
 -- `room_verdict` meets its contract, test by test.
--- Assumes nothing.
 use Prim.Native.Nat.{ℕ, _+_, _*_, _/_, _≤_, _<_}
 use mathlib.Core.Path.{refl}
 use native.Mathlib.Omega.{arith}
@@ -18,31 +17,24 @@ no-more a n h = omega arith
 one-more : (a n : ℕ) → n < a / 5 → n * 5 + 5 ≤ a
 one-more a n h = omega arith
 
--- src/judge.rt:71:16
 index8-requires : tie.Need-index8-requires
 index8-requires c κs = search needs
 
--- src/judge.rt:72:9
 returns : tie.Need-returns
 returns c = rw (lt-ltb _ _ (rw (c .before .index8 .ensures .0) at (c .if1 .taken))) refl
 
--- src/judge.rt:74:12
 index8-requires-2 : tie.Need-index8-requires-2
 index8-requires-2 c κs = search needs
 
--- src/judge.rt:75:9
 returns-2 : tie.Need-returns-2
 returns-2 c = rw (le-ltb _ _ (rw (c .before .before .before .index8 .ensures .0) at (c .before .before .if1 .left)), lt-ltb _ _ (rw (c .before .index82 .ensures .0) at (c .if2 .taken))) refl
 
--- src/judge.rt:78:9
 returns-3 : tie.Need-returns-3
 returns-3 c = rw (le-ltb _ _ (rw (c .before .before .before .before .index8 .ensures .0) at (c .before .before .before .if1 .left)), le-ltb _ _ (rw (c .before .before .index82 .ensures .0) at (c .before .if2 .left)), lt-ltb _ _ (no-more _ _ (c .if3 .taken))) refl
 
--- src/judge.rt:81:9
 returns-4 : tie.Need-returns-4
 returns-4 c = rw (le-ltb _ _ (rw (c .before .before .before .before .before .index8 .ensures .0) at (c .before .before .before .before .if1 .left)), le-ltb _ _ (rw (c .before .before .before .index82 .ensures .0) at (c .before .before .if2 .left)), le-ltb _ _ (one-more _ _ (c .before .if3 .left)), lt-ltb _ _ (no-more _ _ (c .if4 .taken))) refl
 
--- src/judge.rt:60:1
 returns-5 : tie.Need-returns-5
 returns-5 c = rw (le-ltb _ _ (rw (c .before .before .before .before .before .index8 .ensures .0) at (c .before .before .before .before .if1 .left)), le-ltb _ _ (rw (c .before .before .before .index82 .ensures .0) at (c .before .before .if2 .left)), le-ltb _ _ (one-more _ _ (c .before .if3 .left)), le-ltb _ _ (one-more _ _ (c .if4 .left))) refl
 

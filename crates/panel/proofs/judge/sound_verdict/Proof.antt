@@ -1,11 +1,10 @@
 -- `sound_verdict` meets its contract: the tests in their order; the records are searched over the file's part that is its table.
--- Assumes nothing.
 use Prim.Native.Nat.{_-_, _≤_}
 use mathlib.Core.Path.{_≡_, refl, sym, _∙_}
 use lib.ListN.{length, take, drop}
 use borrow.Author.Tests.{lt-ltb, le-ltb}
 use denote.Ref.{now}
-use Rattle.runfile.specs.Lines.{Lined}
+use Rattle.runfile.specs.Shares.{Lined}
 use Rattle.runfile.specs.Operations.{tableOf}
 use Rattle.run.specs.Parts.{part-all, lined-part, table-part}
 use Rattle.panel.specs.Possible.{anyImpossible}
@@ -42,54 +41,18 @@ found c =
     let b = rs .before .before .before .before .args in
     (rw (part-all (now (b .file)) (rs .rows-start .result), rs .before .stride-of .ensures .0, rs .rows-start .ensures .0, i16 .index16 .ensures .0, i8 .index8 .ensures .0, table-part (b .header) (now (b .file))) at (c .any-impossible .ensures))
 
--- src/judge.rt:98:9
 returns : tie.Need-returns
 returns c = rw (lt-ltb _ _ (c .if1 .taken)) refl
 
-stride-of-requires : tie.Need-stride-of-requires
-stride-of-requires c κs = search needs
-
--- src/judge.rt:100:9
-rows-start-requires : tie.Need-rows-start-requires
-rows-start-requires c κs = search needs
-
--- src/judge.rt:101:9
-index16-requires : tie.Need-index16-requires
-index16-requires c κs = search needs
-
--- src/judge.rt:102:9
-index8-requires : tie.Need-index8-requires
-index8-requires c κs = search needs
-
--- src/judge.rt:103:23
-sub-any-impossible : tie.Need-sub-any-impossible
-sub-any-impossible c = search needs
-
--- src/judge.rt:103:23
-part-any-impossible-start : tie.Need-part-any-impossible-start
-part-any-impossible-start c = search needs
-
--- src/judge.rt:103:23
-part-any-impossible-end : tie.Need-part-any-impossible-end
-part-any-impossible-end c = search needs
-
--- src/judge.rt:103:8
 any-impossible-requires : tie.Need-any-impossible-requires
 any-impossible-requires c κs = asked c
 
--- src/judge.rt:104:9
 returns-2 : tie.Need-returns-2
 returns-2 c = rw (le-ltb _ _ (c .before .before .before .before .before .before .before .if1 .left), sym (found (c .before)) ∙ c .if2 .taken) refl
 
--- src/judge.rt:106:8
-is-bad-byte-requires : tie.Need-is-bad-byte-requires
-is-bad-byte-requires c κs = search needs
-
--- src/judge.rt:107:9
 returns-3 : tie.Need-returns-3
 returns-3 c = rw (le-ltb _ _ (c .before .before .before .before .before .before .before .before .before .if1 .left), sym (found (c .before .before .before)) ∙ c .before .before .if2 .left, sym (c .before .is-bad-byte .ensures) ∙ c .if3 .taken) refl
 
--- src/judge.rt:87:1
 returns-4 : tie.Need-returns-4
 returns-4 c = rw (le-ltb _ _ (c .before .before .before .before .before .before .before .before .before .if1 .left), sym (found (c .before .before .before)) ∙ c .before .before .if2 .left, sym (c .before .is-bad-byte .ensures) ∙ c .if3 .left) refl
 
@@ -98,15 +61,15 @@ sound-verdict-spec =
     tie.close
     (tie.spec
     returns
-    stride-of-requires
-    rows-start-requires
-    index16-requires
-    index8-requires
-    sub-any-impossible
-    part-any-impossible-start
-    part-any-impossible-end
+    (λ c κs. search needs)
+    (λ c κs. search needs)
+    (λ c κs. search needs)
+    (λ c κs. search needs)
+    (λ c. search needs)
+    (λ c. search needs)
+    (λ c. search needs)
     any-impossible-requires
     returns-2
-    is-bad-byte-requires
+    (λ c κs. search needs)
     returns-3
     returns-4)

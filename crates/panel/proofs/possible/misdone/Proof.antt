@@ -9,20 +9,16 @@ use Rattle.panel.proofs.possible.misdone.Lts as lts
 use Rattle.panel.proofs.possible.no_answer.Reads as no-answer-reads
 use Rattle.panel.proofs.possible.wrong_kind.Reads as wrong-kind-reads
 
--- src/possible.rt:248:8
 no-answer-requires : tie.Need-no-answer-requires
 no-answer-requires c κs = search needs
 
--- src/possible.rt:249:9
 returns : tie.Need-returns
 unfolding misdone
 returns c = or-hit _ _ (sym (c .before .no-answer .ensures) ∙ c .if1 .taken)
 
--- src/possible.rt:251:5
 wrong-kind-requires : tie.Need-wrong-kind-requires
 wrong-kind-requires c κs = search needs
 
--- src/possible.rt:242:1
 returns-2 : tie.Need-returns-2
 unfolding misdone
 returns-2 c = or-miss _ _ _ (sym (c .before .before .no-answer .ensures) ∙ c .before .if1 .left) (c .wrong-kind .ensures)

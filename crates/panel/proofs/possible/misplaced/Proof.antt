@@ -12,43 +12,22 @@ use Rattle.panel.proofs.possible.none_left.Reads as none-left-reads
 use Rattle.panel.proofs.possible.not_last.Reads as not-last-reads
 use Rattle.panel.proofs.possible.open_while.Reads as open-while-reads
 
--- src/possible.rt:227:9
 returns : tie.Need-returns
 unfolding misplaced
 returns c = or-hit _ _ (lt-ltb _ _ (c .if1 .taken))
 
--- src/possible.rt:229:8
-not-last-requires : tie.Need-not-last-requires
-not-last-requires c κs = search needs
-
--- src/possible.rt:230:9
 returns-2 : tie.Need-returns-2
 unfolding misplaced
 returns-2 c = or-miss _ _ _ (le-ltb _ _ (c .before .before .if1 .left)) (or-hit _ _ (sym (c .before .not-last .ensures) ∙ c .if2 .taken))
 
--- src/possible.rt:232:8
-open-while-requires : tie.Need-open-while-requires
-open-while-requires c κs = search needs
-
--- src/possible.rt:233:9
 returns-3 : tie.Need-returns-3
 unfolding misplaced
 returns-3 c = or-miss _ _ _ (le-ltb _ _ (c .before .before .before .before .if1 .left)) (or-miss _ _ _ (sym (c .before .before .before .not-last .ensures) ∙ c .before .before .if2 .left) (or-hit _ _ (sym (c .before .open-while .ensures) ∙ c .if3 .taken)))
 
--- src/possible.rt:235:8
-none-at-requires : tie.Need-none-at-requires
-none-at-requires c κs = search needs
-
--- src/possible.rt:236:9
 returns-4 : tie.Need-returns-4
 unfolding misplaced
 returns-4 c = or-miss _ _ _ (le-ltb _ _ (c .before .before .before .before .before .before .if1 .left)) (or-miss _ _ _ (sym (c .before .before .before .before .before .not-last .ensures) ∙ c .before .before .before .before .if2 .left) (or-miss _ _ _ (sym (c .before .before .before .open-while .ensures) ∙ c .before .before .if3 .left) (or-hit _ _ (sym (c .before .none-at .ensures) ∙ c .if4 .taken))))
 
--- src/possible.rt:238:5
-none-left-requires : tie.Need-none-left-requires
-none-left-requires c κs = search needs
-
--- src/possible.rt:220:1
 returns-5 : tie.Need-returns-5
 unfolding misplaced
 returns-5 c = or-miss _ _ _ (le-ltb _ _ (c .before .before .before .before .before .before .before .if1 .left)) (or-miss _ _ _ (sym (c .before .before .before .before .before .before .not-last .ensures) ∙ c .before .before .before .before .before .if2 .left) (or-miss _ _ _ (sym (c .before .before .before .before .open-while .ensures) ∙ c .before .before .before .if3 .left) (or-miss _ _ _ (sym (c .before .before .none-at .ensures) ∙ c .before .if4 .left) (c .none-left .ensures))))
@@ -58,11 +37,11 @@ misplaced-spec =
     tie.close
     (tie.spec
     returns
-    not-last-requires
+    (λ c κs. search needs)
     returns-2
-    open-while-requires
+    (λ c κs. search needs)
     returns-3
-    none-at-requires
+    (λ c κs. search needs)
     returns-4
-    none-left-requires
+    (λ c κs. search needs)
     returns-5)

@@ -1,5 +1,4 @@
 -- `press` meets its contract: refused, or run, as the verdict says.
--- Assumes nothing.
 use mathlib.Core.Path.{_≡_, sym, _∙_}
 use native.Mathlib.Omega.{arith}
 use Prim.Native.Nat.{_≤_}
@@ -30,38 +29,11 @@ rows-in c =
     let r = c .rows-start .ensures .0 in
     omega arith
 
-verdict-of-requires : tie.Need-verdict-of-requires
-verdict-of-requires c κs = search needs
-
-enum-known-verdict : tie.Need-enum-known-verdict
-enum-known-verdict c = search needs
-
-enum-known-verdict-2 : tie.Need-enum-known-verdict-2
-enum-known-verdict-2 c = search needs
-
-stride-of-requires : tie.Need-stride-of-requires
-stride-of-requires c κs = search needs
-
-rows-start-requires : tie.Need-rows-start-requires
-rows-start-requires c κs = search needs
-
-index16-requires : tie.Need-index16-requires
-index16-requires c κs = search needs
-
-index8-requires : tie.Need-index8-requires
-index8-requires c κs = search needs
-
 sub-run-bytes : tie.Need-sub-run-bytes
 sub-run-bytes c = let e = rows-in (c .before .before) in search needs
 
 part-run-bytes-start : tie.Need-part-run-bytes-start
 part-run-bytes-start c = let e = rows-in (c .before .before) in search needs
-
-part-run-bytes-end : tie.Need-part-run-bytes-end
-part-run-bytes-end c = search needs
-
-slice-aggregate-run-bytes : tie.Need-slice-aggregate-run-bytes
-slice-aggregate-run-bytes c = search needs
 
 run-bytes-requires : tie.Need-run-bytes-requires
 run-bytes-requires c κs = let i8 = c .before .before .before .before .before in
@@ -69,27 +41,9 @@ run-bytes-requires c κs = let i8 = c .before .before .before .before .before in
     let rs = ix .before in
     able-in _ _ _ _ (fitted (rs .before .before .before)) _ _ _ _ (rs .before .stride-of .ensures .0) (rs .rows-start .ensures .0) (ix .index16 .ensures .0) (i8 .index8 .ensures .0)
 
-same-length : tie.Need-same-length
-same-length c = search needs
-
-same-length-2 : tie.Need-same-length-2
-same-length-2 c = search needs
-
-same-length-3 : tie.Need-same-length-3
-same-length-3 c = search needs
-
 returns : tie.Need-returns
 returns c = let b = c .before .before .before .before .before .before .before .before .before .before .before .args in
     was-refused (now (b .file)) (b .n) (b .processes) (now (b .words)) (now (b .log)) (now (b .answers)) (b .byte) (b .position) (b .log-rows) (b .answer-rows) _ _ (sym (c .before .before .before .verdict-of .ensures) ∙ c .before .verdict .given .1)
-
-same-length-4 : tie.Need-same-length-4
-same-length-4 c = search needs
-
-same-length-5 : tie.Need-same-length-5
-same-length-5 c = search needs
-
-same-length-6 : tie.Need-same-length-6
-same-length-6 c = search needs
 
 returns-2 : tie.Need-returns-2
 returns-2 c = let rn = c .before .before .before .before .before .before .before in
@@ -105,23 +59,23 @@ pub press-spec : {M : Type 1} → statement M
 press-spec =
     tie.close
     (tie.spec
-    verdict-of-requires
-    enum-known-verdict
-    enum-known-verdict-2
-    stride-of-requires
-    rows-start-requires
-    index16-requires
-    index8-requires
+    (λ c κs. search needs)
+    (λ c. search needs)
+    (λ c. search needs)
+    (λ c κs. search needs)
+    (λ c κs. search needs)
+    (λ c κs. search needs)
+    (λ c κs. search needs)
     sub-run-bytes
     part-run-bytes-start
-    part-run-bytes-end
-    slice-aggregate-run-bytes
+    (λ c. search needs)
+    (λ c. search needs)
     run-bytes-requires
-    same-length
-    same-length-2
-    same-length-3
+    (λ c. search needs)
+    (λ c. search needs)
+    (λ c. search needs)
     returns
-    same-length-4
-    same-length-5
-    same-length-6
+    (λ c. search needs)
+    (λ c. search needs)
+    (λ c. search needs)
     returns-2)

@@ -1,5 +1,4 @@
 -- `first_swap_after` meets its contract. Invariant: what the search finds from row i on is what the whole search finds. Measure: the rows left.
--- Assumes nothing.
 use Prim.Native.Nat.{ℕ, _≤_, _-_}
 use mathlib.Core.Path.{_≡_, refl}
 use mathlib.Core.List.{List}
@@ -27,29 +26,11 @@ abbrev μ-loop : tie.MeasureT-loop
 loop-holds : tie.Need-loop-holds Inv-loop μ-loop
 loop-holds c = record { within = search needs; kept = refl }
 
-is-swap-after-requires : tie.Need-is-swap-after-requires Inv-loop μ-loop
-is-swap-after-requires c κs = search needs
-
-mul-result : tie.Need-mul-result Inv-loop μ-loop
-mul-result c = search needs
-
-mul-result-2 : tie.Need-mul-result-2 Inv-loop μ-loop
-mul-result-2 c = search needs
-
-shared-slice-read-result : tie.Need-shared-slice-read-result Inv-loop μ-loop
-shared-slice-read-result c = search needs
-
 returns : tie.Need-returns Inv-loop μ-loop
 returns c = let t = c .before in
     let m = t .before in
     let l = m .before .before in
     hit _ _ _ _ _ _ _ _ (l .loop .inv .kept) _ (m .before .loop-test .taken) (m .is-swap-after .ensures) (t .if1 .taken)
-
-add-i : tie.Need-add-i Inv-loop μ-loop
-add-i c = search needs
-
-loop-less : tie.Need-loop-less Inv-loop μ-loop
-loop-less c = search needs
 
 loop-again : tie.Need-loop-again Inv-loop μ-loop
 loop-again c = let m = c .before in
@@ -67,12 +48,12 @@ first-swap-after-spec =
     Inv-loop
     μ-loop
     loop-holds
-    is-swap-after-requires
-    mul-result
-    mul-result-2
-    shared-slice-read-result
+    (λ c κs. search needs)
+    (λ c. search needs)
+    (λ c. search needs)
+    (λ c. search needs)
     returns
-    add-i
-    loop-less
+    (λ c. search needs)
+    (λ c. search needs)
     loop-again
     returns-2)

@@ -1,5 +1,4 @@
 -- `insert_row` meets its contract: the part from the place on comes back with its rows moved up, and the new row is written over the first of them (`put-back`).
--- Assumes nothing.
 use Prim.Native.Nat.{_*_, _-_}
 use mathlib.Core.Path.{_∙_}
 use native.Mathlib.Omega.{arith}
@@ -8,39 +7,6 @@ use borrow.Author.Needs.{needs}
 use Rattle.rows.proofs.Insert.{put-back}
 use Rattle.rows.proofs.log.insert_row.Statement.{statement}
 use Rattle.rows.proofs.log.insert_row.Tie as tie
-
-place-of-requires : tie.Need-place-of-requires
-place-of-requires c κs = search needs
-
-mul-at : tie.Need-mul-at
-mul-at c = search needs
-
-mul-count : tie.Need-mul-count
-mul-count c = search needs
-
-sub-count : tie.Need-sub-count
-sub-count c = search needs
-
-mul-shift-rows : tie.Need-mul-shift-rows
-mul-shift-rows c = search needs
-
-sub-shift-rows : tie.Need-sub-shift-rows
-sub-shift-rows c = search needs
-
-part-shift-rows-start : tie.Need-part-shift-rows-start
-part-shift-rows-start c = search needs
-
-part-shift-rows-end : tie.Need-part-shift-rows-end
-part-shift-rows-end c = search needs
-
-shift-rows-requires : tie.Need-shift-rows-requires
-shift-rows-requires c κs = search needs
-
-write-row-requires : tie.Need-write-row-requires
-write-row-requires c κs = search needs
-
-same-length : tie.Need-same-length
-same-length c = search needs
 
 returns : tie.Need-returns
 returns c = let w = c .before .before in
@@ -56,15 +22,15 @@ pub insert-row-spec : {M : Type 1} → statement M
 insert-row-spec =
     tie.close
     (tie.spec
-    place-of-requires
-    mul-at
-    mul-count
-    sub-count
-    mul-shift-rows
-    sub-shift-rows
-    part-shift-rows-start
-    part-shift-rows-end
-    shift-rows-requires
-    write-row-requires
-    same-length
+    (λ c κs. search needs)
+    (λ c. search needs)
+    (λ c. search needs)
+    (λ c. search needs)
+    (λ c. search needs)
+    (λ c. search needs)
+    (λ c. search needs)
+    (λ c. search needs)
+    (λ c κs. search needs)
+    (λ c κs. search needs)
+    (λ c. search needs)
     returns)

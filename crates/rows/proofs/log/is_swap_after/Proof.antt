@@ -1,5 +1,4 @@
 -- `is_swap_after` meets its contract: the tests of the row are those of `isSwap`, in its order, and the table's byte is the word that the row names.
--- Assumes nothing.
 use Prim.Native.Nat.{ℕ, _+_, _*_, _≤_, _<_}
 use mathlib.Core.Path.{_≡_}
 use mathlib.Core.Bool.{Bool, false}
@@ -10,7 +9,7 @@ use lib.ListN.{getD}
 use borrow.Author.Needs.{needs}
 use borrow.Author.Tests.{le-ltb, lt-ltb, ne-eqb}
 use Rattle.runfile.specs.Layout.{rowOfTable}
-use Rattle.runfile.specs.Lines.{has-row}
+use Rattle.runfile.specs.Shares.{has-row}
 use Rattle.runfile.specs.Operations.{rowsFrom}
 use Rattle.runfile.specs.OperationLaws.{names-table, names-past}
 use Rattle.rows.specs.Entries.{isTrue}
@@ -41,38 +40,11 @@ module _ (stride : ℕ) (table log : List ℕ) (n w a k : ℕ) where
     unfolding isSwap isTrue entryAt
     there h x is = rw (won, lt-ltb a (getD log k 0) later, names-table stride table n (getD log (k + 2) 0) w h, is)
 
-mul-at : tie.Need-mul-at
-mul-at c = search needs
-
-add-if1 : tie.Need-add-if1
-add-if1 c = search needs
-
-mul-if1 : tie.Need-mul-if1
-mul-if1 c = search needs
-
-shared-slice-read-if1 : tie.Need-shared-slice-read-if1
-shared-slice-read-if1 c = search needs
-
 returns : tie.Need-returns
 returns c = lost _ _ _ _ _ _ _ (c .if1 .taken)
 
-mul-if2 : tie.Need-mul-if2
-mul-if2 c = search needs
-
-shared-slice-read-if2 : tie.Need-shared-slice-read-if2
-shared-slice-read-if2 c = search needs
-
 returns-2 : tie.Need-returns-2
 returns-2 c = early _ _ _ _ _ _ _ (c .before .before .if1 .left) (omega arith)
-
-add-row : tie.Need-add-row
-add-row c = search needs
-
-mul-row : tie.Need-mul-row
-mul-row c = search needs
-
-shared-slice-read-row : tie.Need-shared-slice-read-row
-shared-slice-read-row c = search needs
 
 cast-row : tie.Need-cast-row
 cast-row c = omega (arith, c .shared-slice-known5 .given (c .before .before .before .before .before .before .before .args .i * 5 + 2))
@@ -92,17 +64,17 @@ pub is-swap-after-spec : {M : Type 1} → statement M
 is-swap-after-spec =
     tie.close
     (tie.spec
-    mul-at
-    add-if1
-    mul-if1
-    shared-slice-read-if1
+    (λ c. search needs)
+    (λ c. search needs)
+    (λ c. search needs)
+    (λ c. search needs)
     returns
-    mul-if2
-    shared-slice-read-if2
+    (λ c. search needs)
+    (λ c. search needs)
     returns-2
-    add-row
-    mul-row
-    shared-slice-read-row
+    (λ c. search needs)
+    (λ c. search needs)
+    (λ c. search needs)
     cast-row
     returns-3
     word-of-row-requires

@@ -1,5 +1,4 @@
 -- `shift_rows` meets its contract. Invariant: the numbers from i on have been moved, and none below. Measure: i.
--- Assumes nothing.
 use borrow.Author.Needs.{needs}
 use mathlib.Core.Path.{_≡_, refl, _∙_}
 use mathlib.Core.List.{List}
@@ -24,26 +23,11 @@ abbrev μ-loop : tie.MeasureT-loop
 loop-holds : tie.Need-loop-holds Inv-loop μ-loop
 loop-holds c = record { within = search needs; as-long = refl; done = moved-none _ _ }
 
-sub-i : tie.Need-sub-i Inv-loop μ-loop
-sub-i c = search needs
-
-mul-part : tie.Need-mul-part Inv-loop μ-loop
-mul-part c = search needs
-
 slice-read-part : tie.Need-slice-read-part Inv-loop μ-loop
 slice-read-part c = omega (arith, c .before .before .loop .inv .as-long)
 
-add-part : tie.Need-add-part Inv-loop μ-loop
-add-part c = search needs
-
-mul-part-2 : tie.Need-mul-part-2 Inv-loop μ-loop
-mul-part-2 c = search needs
-
 slice-write-part : tie.Need-slice-write-part Inv-loop μ-loop
 slice-write-part c = omega (arith, c .before .before .loop .inv .as-long)
-
-loop-less : tie.Need-loop-less Inv-loop μ-loop
-loop-less c = search needs
 
 loop-again : tie.Need-loop-again Inv-loop μ-loop
 loop-again c =
@@ -64,13 +48,13 @@ shift-rows-spec =
     Inv-loop
     μ-loop
     loop-holds
-    sub-i
-    mul-part
+    (λ c. search needs)
+    (λ c. search needs)
     slice-read-part
-    add-part
-    mul-part-2
+    (λ c. search needs)
+    (λ c. search needs)
     slice-write-part
-    loop-less
+    (λ c. search needs)
     loop-again
     same-length
     returns)

@@ -1,5 +1,4 @@
 -- `load_words` meets its contract. Invariant: the first i start words stand in front. Measure: the words left.
--- Assumes nothing.
 use Rattle.run.proofs.Start.{load-turn, load-end}
 use Rattle.rows.specs.Buffers.{infront}
 use Rattle.runfile.specs.OperationLaws.{word-within}
@@ -33,18 +32,6 @@ word-at-requires c κs = let l = c .before in
     let p = st .pre in
     omega arith
 
-mul-words : tie.Need-mul-words Inv-loop μ-loop
-mul-words c = search needs
-
-slice-write-words : tie.Need-slice-write-words Inv-loop μ-loop
-slice-write-words c = search needs
-
-add-i : tie.Need-add-i Inv-loop μ-loop
-add-i c = search needs
-
-loop-less : tie.Need-loop-less Inv-loop μ-loop
-loop-less c = search needs
-
 loop-again : tie.Need-loop-again Inv-loop μ-loop
 loop-again c = let l = c .before .before in
     let a = l .before .before .before .args in
@@ -69,10 +56,10 @@ load-words-spec =
     μ-loop
     loop-holds
     word-at-requires
-    mul-words
-    slice-write-words
-    add-i
-    loop-less
+    (λ c. search needs)
+    (λ c. search needs)
+    (λ c. search needs)
+    (λ c. search needs)
     loop-again
     same-length
     returns)

@@ -1,5 +1,4 @@
 -- `new_place` meets its contract: the place by the row's size is that of Format.
--- Assumes nothing.
 use Rattle.runfile.specs.Format.{newPlace}
 use mathlib.Core.Path.{refl}
 use borrow.Author.Needs.{needs}

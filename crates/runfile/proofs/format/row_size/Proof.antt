@@ -1,5 +1,4 @@
 -- `row_size` meets its contract: the sizes by version are those of Format.
--- Assumes nothing.
 use Rattle.runfile.specs.Format.{rowSize}
 use mathlib.Core.Path.{refl}
 use native.Mathlib.Omega.{arith}

@@ -1,5 +1,4 @@
 -- `word_size` meets its contract: the sizes by version are those of Format.
--- Assumes nothing.
 use Rattle.runfile.specs.Format.{wordSize}
 use mathlib.Core.Path.{refl}
 use native.Mathlib.Omega.{arith}

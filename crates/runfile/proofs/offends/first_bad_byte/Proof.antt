@@ -1,5 +1,4 @@
 -- `first_bad_byte` meets its contract. Invariant: what the search finds from i on is what the whole search finds. Measure: the bytes left.
--- Assumes nothing.
 use Rattle.runfile.proofs.First.{From, begin, hit, miss, over}
 use Rattle.runfile.specs.Refusals.{firstOffender, firstByte, badByte}
 use denote.Ref.{now}
@@ -22,15 +21,6 @@ loop-holds c = let a = c .before .args in
     let s : List ℕ = now (a .schedule) in
     (search needs, begin (λ j. a .start + j) (λ j. badByte (a .processes) (getD s j 0)) (length s))
 
-shared-slice-read-is-bad-byte : tie.Need-shared-slice-read-is-bad-byte Inv-loop μ-loop
-shared-slice-read-is-bad-byte c = search needs
-
-is-bad-byte-requires : tie.Need-is-bad-byte-requires Inv-loop μ-loop
-is-bad-byte-requires c κs = search needs
-
-add-t10 : tie.Need-add-t10 Inv-loop μ-loop
-add-t10 c = search needs
-
 returns : tie.Need-returns Inv-loop μ-loop
 unfolding firstByte
 returns c = let m = c .before in
@@ -38,12 +28,6 @@ returns c = let m = c .before in
     let a = l .before .before .args in
     let s : List ℕ = now (a .schedule) in
     hit (λ j. a .start + j) (λ j. badByte (a .processes) (getD s j 0)) (length s) (l .loop .i) _ (m .before .before .loop-test .taken) (sym (m .is-bad-byte .ensures) ∙ c .if1 .taken) (l .loop .inv .1)
-
-add-i : tie.Need-add-i Inv-loop μ-loop
-add-i c = search needs
-
-loop-less : tie.Need-loop-less Inv-loop μ-loop
-loop-less c = search needs
 
 loop-again : tie.Need-loop-again Inv-loop μ-loop
 loop-again c = let m = c .before in
@@ -66,11 +50,11 @@ first-bad-byte-spec =
     Inv-loop
     μ-loop
     loop-holds
-    shared-slice-read-is-bad-byte
-    is-bad-byte-requires
-    add-t10
+    (λ c. search needs)
+    (λ c κs. search needs)
+    (λ c. search needs)
     returns
-    add-i
-    loop-less
+    (λ c. search needs)
+    (λ c. search needs)
     loop-again
     returns-2)

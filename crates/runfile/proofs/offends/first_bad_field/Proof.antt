@@ -1,6 +1,5 @@
 -- `first_bad_field` meets its contract. Before row k: what the search finds from row k on is what the whole search finds. Before field i of
 -- row k: what the search in the row finds from field i on is what it finds in the whole row. Measures: the rows left, the fields left.
--- Assumes nothing.
 use Rattle.runfile.proofs.First.{Left, all-left, found-here, none-here, none-left, From, begin, hit, miss, over}
 use Rattle.runfile.specs.Refusals.{badIn, firstFound, badFieldIn, firstBadField}
 use Rattle.runfile.specs.Format.{offsetOf, within}
@@ -71,23 +70,11 @@ fields-holds c = let l = c .before in
     let file : List ℕ = now (a .file) in let start : ℕ = a .start in let stride : ℕ = a .stride in let header = a .header in
     (search needs, l .rows .inv .1, begin (place stride start (l .rows .k)) (badAt header stride file start (l .rows .k)) 6)
 
-array-copy-out-field : tie.Need-array-copy-out-field Inv-fields μ-fields Inv-rows μ-rows
-array-copy-out-field c = search needs
-
 is-bad-field-requires : tie.Need-is-bad-field-requires Inv-fields μ-fields Inv-rows μ-rows
 is-bad-field-requires c κs = let r = c .before .before .before in (r .before .before .before .pre .0, fits r)
 
-offset-of-requires : tie.Need-offset-of-requires Inv-fields μ-fields Inv-rows μ-rows
-offset-of-requires c κs = search needs
-
 add-t26 : tie.Need-add-t26 Inv-fields μ-fields Inv-rows μ-rows
 add-t26 c = let w = fits (c .before .before .before .before .before .before) in let o = c .offset-of .ensures .1 in omega arith
-
-add-i : tie.Need-add-i Inv-fields μ-fields Inv-rows μ-rows
-add-i c = search needs
-
-fields-less : tie.Need-fields-less Inv-fields μ-fields Inv-rows μ-rows
-fields-less c = search needs
 
 fields-again : tie.Need-fields-again Inv-fields μ-fields Inv-rows μ-rows
 fields-again c = let m = c .before in
@@ -96,12 +83,6 @@ fields-again c = let m = c .before in
     let a = r .before .before .args in
     let file : List ℕ = now (a .file) in let start : ℕ = a .start in let stride : ℕ = a .stride in let header = a .header in
     (search needs, l .fields .inv .1, miss (place stride start (r .rows .k)) (badAt header stride file start (r .rows .k)) 6 (l .fields .i) _ (m .before .before .fields-test .taken) (tested m ∙ c .if1 .left) (l .fields .inv .2))
-
-add-k : tie.Need-add-k Inv-fields μ-fields Inv-rows μ-rows
-add-k c = search needs
-
-rows-less : tie.Need-rows-less Inv-fields μ-fields Inv-rows μ-rows
-rows-less c = search needs
 
 rows-again : tie.Need-rows-again Inv-fields μ-fields Inv-rows μ-rows
 rows-again c = let l = c .before in
@@ -140,15 +121,15 @@ first-bad-field-spec =
     mul-at
     add-at
     fields-holds
-    array-copy-out-field
+    (λ c. search needs)
     is-bad-field-requires
-    offset-of-requires
+    (λ c κs. search needs)
     add-t26
-    add-i
-    fields-less
+    (λ c. search needs)
+    (λ c. search needs)
     fields-again
-    add-k
-    rows-less
+    (λ c. search needs)
+    (λ c. search needs)
     rows-again
     returns
     returns-2)

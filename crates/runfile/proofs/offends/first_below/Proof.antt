@@ -1,5 +1,4 @@
 -- `first_below` meets its contract. Invariant: what the search finds from row k on is what the search from row 1 finds. Measure: the rows left.
--- Assumes nothing.
 use Rattle.runfile.proofs.Below.{is-below, not-below}
 use Rattle.runfile.proofs.First.{From, hit, miss, over}
 use Rattle.runfile.specs.Refusals.{firstOffender, firstLaterRow, below}
@@ -64,12 +63,6 @@ returns c = let m = c .before .before in
     let file : List ℕ = now (a .file) in
     hit (rowPlace (a .stride) (a .start)) (below (a .stride) file (a .start)) (a .rows) (l .loop .k) _ (m .before .loop-test .taken) (is-below (a .stride) file (a .start) (l .loop .k) (l .loop .inv .0) (c .if1 .taken)) (l .loop .inv .1)
 
-add-k : tie.Need-add-k Inv-loop μ-loop
-add-k c = search needs
-
-loop-less : tie.Need-loop-less Inv-loop μ-loop
-loop-less c = search needs
-
 loop-again : tie.Need-loop-again Inv-loop μ-loop
 loop-again c = let m = c .before .before in
     let l = m .before .before in
@@ -96,7 +89,7 @@ first-below-spec =
     shared-slice-read-if1
     shared-slice-read-if1-2
     returns
-    add-k
-    loop-less
+    (λ c. search needs)
+    (λ c. search needs)
     loop-again
     returns-2)

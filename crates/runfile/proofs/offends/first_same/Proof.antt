@@ -1,5 +1,4 @@
 -- `first_same` meets its contract. Invariant: what the search finds from row k on is what the whole search finds. Measure: the rows left.
--- Assumes nothing.
 use Rattle.runfile.proofs.First.{From, begin, hit, miss, over}
 use Rattle.runfile.specs.Refusals.{firstOffender, firstRow, same}
 use Rattle.runfile.specs.Layout.{rowPlace}
@@ -53,12 +52,6 @@ returns c = let m = c .before in
     let file : List ℕ = now (a .file) in let start : ℕ = a .start in let stride : ℕ = a .stride in
     hit (rowPlace stride start) (same stride file start) (a .rows) (l .loop .k) _ (m .before .loop-test .taken) (sym (m .is-same .ensures) ∙ c .if1 .taken) (l .loop .inv .1)
 
-add-k : tie.Need-add-k Inv-loop μ-loop
-add-k c = search needs
-
-loop-less : tie.Need-loop-less Inv-loop μ-loop
-loop-less c = search needs
-
 loop-again : tie.Need-loop-again Inv-loop μ-loop
 loop-again c = let m = c .before in
     let l = m .before .before in
@@ -84,7 +77,7 @@ first-same-spec =
     add-at
     is-same-requires
     returns
-    add-k
-    loop-less
+    (λ c. search needs)
+    (λ c. search needs)
     loop-again
     returns-2)

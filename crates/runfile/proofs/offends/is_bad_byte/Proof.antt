@@ -1,5 +1,4 @@
 -- `is_bad_byte` meets its contract: the ranges of the match are those of the actions.
--- Assumes nothing.
 use Rattle.runfile.proofs.Bytes.{names-one, no-action, names-all}
 use Rattle.runfile.specs.Refusals.{badByte}
 use native.Mathlib.Omega.{arith}

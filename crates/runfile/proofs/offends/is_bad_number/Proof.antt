@@ -1,5 +1,4 @@
 -- `is_bad_number` meets its contract: the number is looked at only where it must be 0.
--- Assumes nothing.
 use borrow.Author.Needs.{needs}
 use Rattle.runfile.proofs.offends.is_bad_number.Statement.{statement}
 use Rattle.runfile.proofs.offends.is_bad_number.Tie as tie

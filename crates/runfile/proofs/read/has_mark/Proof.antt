@@ -1,27 +1,17 @@
 -- `has_mark` meets its contract: the three bytes in order.
--- Assumes nothing.
 use Rattle.runfile.specs.Layout.{marked}
 use borrow.Author.Tests.{eq-eqb, ne-eqb}
 use borrow.Author.Needs.{needs}
 use Rattle.runfile.proofs.read.has_mark.Statement.{statement}
 use Rattle.runfile.proofs.read.has_mark.Tie as tie
 
-shared-slice-read-if1 : tie.Need-shared-slice-read-if1
-shared-slice-read-if1 c = search needs
-
 returns : tie.Need-returns
 unfolding marked
 returns c = simp (ne-eqb _ _ (c .if1 .taken))
 
-shared-slice-read-if2 : tie.Need-shared-slice-read-if2
-shared-slice-read-if2 c = search needs
-
 returns-2 : tie.Need-returns-2
 unfolding marked
 returns-2 c = simp (ne-eqb _ _ (c .if2 .taken), eq-eqb _ _ (c .before .before .if1 .left))
-
-shared-slice-read-result : tie.Need-shared-slice-read-result
-shared-slice-read-result c = search needs
 
 returns-3 : tie.Need-returns-3
 unfolding marked
@@ -31,9 +21,9 @@ pub has-mark-spec : {M : Type 1} → statement M
 has-mark-spec =
     tie.close
     (tie.spec
-    shared-slice-read-if1
+    (λ c. search needs)
     returns
-    shared-slice-read-if2
+    (λ c. search needs)
     returns-2
-    shared-slice-read-result
+    (λ c. search needs)
     returns-3)

@@ -1,5 +1,4 @@
 -- `header_or_zeros` meets its contract: a file that has a header is not too short for one.
--- Assumes nothing.
 use native.Mathlib.Omega.{arith}
 use borrow.Author.Needs.{needs}
 use Rattle.runfile.proofs.read.header_or_zeros.Statement.{statement}
@@ -7,9 +6,6 @@ use Rattle.runfile.proofs.read.header_or_zeros.Tie as tie
 
 returns : tie.Need-returns
 returns c = λ long. absurd (let short = c .if1 .taken in omega arith)
-
-header-of-requires : tie.Need-header-of-requires
-header-of-requires c κs = search needs
 
 returns-2 : tie.Need-returns-2
 returns-2 c = λ long. c .header-of .ensures
@@ -19,5 +15,5 @@ header-or-zeros-spec =
     tie.close
     (tie.spec
     returns
-    header-of-requires
+    (λ c κs. search needs)
     returns-2)

@@ -1,5 +1,4 @@
 -- `number_at` meets its contract: the size of the number goes with the size of the row.
--- Assumes nothing.
 use Rattle.runfile.specs.Layout.{numberAt}
 use borrow.Author.Needs.{needs}
 use Rattle.runfile.proofs.read.number_at.Statement.{statement}

@@ -1,5 +1,4 @@
 -- `rows_start` meets its contract: the products of counts and sizes are small.
--- Assumes nothing.
 use Rattle.runfile.proofs.Sizes.{words-fit}
 use native.Mathlib.Omega.{arith}
 use borrow.Author.Needs.{needs}

@@ -1,19 +1,9 @@
 -- `schedule_start` meets its contract: the products of counts and sizes are small.
--- Assumes nothing.
 use Rattle.runfile.proofs.Sizes.{rows-fit}
 use native.Mathlib.Omega.{arith}
 use borrow.Author.Needs.{needs}
 use Rattle.runfile.proofs.read.schedule_start.Statement.{statement}
 use Rattle.runfile.proofs.read.schedule_start.Tie as tie
-
-rows-start-requires : tie.Need-rows-start-requires
-rows-start-requires c κs = search needs
-
-index16-requires : tie.Need-index16-requires
-index16-requires c κs = search needs
-
-stride-of-requires : tie.Need-stride-of-requires
-stride-of-requires c κs = search needs
 
 mul-result : tie.Need-mul-result
 mul-result c = let p = rows-fit (c .before .index16 .result) (c .stride-of .result) (c .before .index16 .ensures .1) (c .stride-of .ensures .1) in omega arith
@@ -29,9 +19,9 @@ pub schedule-start-spec : {M : Type 1} → statement M
 schedule-start-spec =
     tie.close
     (tie.spec
-    rows-start-requires
-    index16-requires
-    stride-of-requires
+    (λ c κs. search needs)
+    (λ c κs. search needs)
+    (λ c κs. search needs)
     mul-result
     add-result
     returns)

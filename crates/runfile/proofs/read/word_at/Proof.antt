@@ -1,5 +1,4 @@
 -- `word_at` meets its contract: the word is in the file, and is read as its version says.
--- Assumes nothing.
 use Rattle.runfile.specs.Format.{wordSize, one-more}
 use mathlib.Core.Path.{_≡_, ap}
 use Prim.Native.Nat.{ℕ, _+_, _*_, _≤_}

@@ -1,5 +1,4 @@
 -- `word_of_row` meets its contract: it reads the row's third byte.
--- Assumes nothing.
 use Rattle.runfile.specs.Layout.{rowAt}
 use mathlib.Core.Path.{refl}
 use borrow.Author.Needs.{needs}

@@ -1,15 +1,14 @@
 -- `firsts_of` meets its contract. Invariant: the first p entries are made, and the sum is that of the counts before p. Measure: the entries left.
--- Assumes nothing.
 use Rattle.runfile.proofs.Tables.{sum-next}
 use Rattle.runfile.proofs.Tables.{upto-next, sum-fits}
 use native.Mathlib.Omega.{arith}
 use Rattle.runfile.proofs.Tables.{Upto}
-use Rattle.runfile.specs.Lines.{sumTo}
+use Rattle.runfile.specs.Shares.{sumTo}
 use Prim.Native.Nat.{_≤_, _-_}
 use mathlib.Core.Path.{_≡_, refl}
 use borrow.Author.Needs.{needs}
-use Rattle.runfile.proofs.lines.firsts_of.Statement.{statement}
-use Rattle.runfile.proofs.lines.firsts_of.Tie as tie
+use Rattle.runfile.proofs.shares.firsts_of.Statement.{statement}
+use Rattle.runfile.proofs.shares.firsts_of.Tie as tie
 
 abbrev Inv-loop : tie.InvT-loop
 Inv-loop counts firsts₀ sum₀ p₀ firsts sum p = (p ≤ 16) × (sum ≡ sumTo counts p) × Upto counts firsts p
@@ -21,29 +20,11 @@ loop-holds : tie.Need-loop-holds Inv-loop μ-loop
 unfolding sumTo
 loop-holds c = (search needs, refl, record { size = refl; each = λ j l. absurd (omega arith) })
 
-mul-firsts : tie.Need-mul-firsts Inv-loop μ-loop
-mul-firsts c = search needs
-
-array-write-firsts : tie.Need-array-write-firsts Inv-loop μ-loop
-array-write-firsts c = search needs
-
-mul-sum : tie.Need-mul-sum Inv-loop μ-loop
-mul-sum c = search needs
-
-array-read-sum : tie.Need-array-read-sum Inv-loop μ-loop
-array-read-sum c = search needs
-
 add-sum : tie.Need-add-sum Inv-loop μ-loop
 add-sum c = let l = c .before in
     let f = sum-fits (l .before .args .t1) (l .loop .p) (c .loop-test .taken) (l .before .pre) in
     let e = l .loop .inv .1 in
     omega arith
-
-add-p : tie.Need-add-p Inv-loop μ-loop
-add-p c = search needs
-
-loop-less : tie.Need-loop-less Inv-loop μ-loop
-loop-less c = search needs
 
 loop-again : tie.Need-loop-again Inv-loop μ-loop
 loop-again c = let l = c .before in
@@ -63,12 +44,12 @@ firsts-of-spec =
     Inv-loop
     μ-loop
     loop-holds
-    mul-firsts
-    array-write-firsts
-    mul-sum
-    array-read-sum
+    (λ c. search needs)
+    (λ c. search needs)
+    (λ c. search needs)
+    (λ c. search needs)
     add-sum
-    add-p
-    loop-less
+    (λ c. search needs)
+    (λ c. search needs)
     loop-again
     returns)

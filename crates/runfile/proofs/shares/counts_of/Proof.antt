@@ -1,16 +1,15 @@
 -- `counts_of` meets its contract. Invariant: the table counts the first k rows. Measure: the rows left.
--- Assumes nothing.
 use Rattle.runfile.proofs.Tables.{zeros, few, counted-next}
 use denote.Ref.{now}
 use native.Mathlib.Omega.{arith}
 use mathlib.Core.Path.{_≡_, refl, _∙_}
 use Rattle.runfile.specs.Layout.{rowOfTable}
-use Rattle.runfile.specs.Lines.{Counted, has-row}
+use Rattle.runfile.specs.Shares.{Counted, has-row}
 use Rattle.runfile.specs.Operations.{rowsFrom, count}
 use Prim.Native.Nat.{_≤_, _<_, _-_}
 use borrow.Author.Needs.{needs}
-use Rattle.runfile.proofs.lines.counts_of.Statement.{statement}
-use Rattle.runfile.proofs.lines.counts_of.Tie as tie
+use Rattle.runfile.proofs.shares.counts_of.Statement.{statement}
+use Rattle.runfile.proofs.shares.counts_of.Tie as tie
 
 abbrev Inv-loop : tie.InvT-loop
 Inv-loop table stride rows counts₀ k₀ counts k = (k ≤ rows) × Counted (rowsFrom stride table 0 k) counts
@@ -38,12 +37,6 @@ process-of-row-requires c κs = let l = c .before in
     let h = l .before .before .pre in
     has-row (a .stride) (now (a .table)) (a .rows) (l .loop .k) (h .size) (h .whole) (c .loop-test .taken)
 
-index8-requires : tie.Need-index8-requires Inv-loop μ-loop
-index8-requires c κs = search needs
-
-mul-counts : tie.Need-mul-counts Inv-loop μ-loop
-mul-counts c = search needs
-
 array-read-counts : tie.Need-array-read-counts Inv-loop μ-loop
 array-read-counts c = small c
 
@@ -52,17 +45,8 @@ add-counts c = let l = c .before .before .before in
     let f = few (l .before .before .args .stride) (now (l .before .before .args .table)) (l .loop .k) (l .loop .counts) (l .loop .inv .1) (c .index8 .result) (named c) (small c) in
     omega arith
 
-mul-counts-2 : tie.Need-mul-counts-2 Inv-loop μ-loop
-mul-counts-2 c = search needs
-
 array-write-counts : tie.Need-array-write-counts Inv-loop μ-loop
 array-write-counts c = small c
-
-add-k : tie.Need-add-k Inv-loop μ-loop
-add-k c = search needs
-
-loop-less : tie.Need-loop-less Inv-loop μ-loop
-loop-less c = search needs
 
 loop-again : tie.Need-loop-again Inv-loop μ-loop
 loop-again c = let l = c .before .before .before in
@@ -81,13 +65,13 @@ counts-of-spec =
     μ-loop
     loop-holds
     process-of-row-requires
-    index8-requires
-    mul-counts
+    (λ c κs. search needs)
+    (λ c. search needs)
     array-read-counts
     add-counts
-    mul-counts-2
+    (λ c. search needs)
     array-write-counts
-    add-k
-    loop-less
+    (λ c. search needs)
+    (λ c. search needs)
     loop-again
     returns)

@@ -3,7 +3,7 @@ use super::read::index8;
 use super::read::process_of_row;
 ghost use Prim.Native.Nat.{_<_};
 ghost use Rattle.runfile.specs.Operations.{rowsFrom};
-ghost use Rattle.runfile.specs.Lines.{Lined, Counted, Summed, sumTo};
+ghost use Rattle.runfile.specs.Shares.{Lined, Counted, Summed, sumTo};
 
 // How many rows each process has.
 pub fn counts_of(table: &[u8], stride: usize, rows: usize) -> [u16; 16]
