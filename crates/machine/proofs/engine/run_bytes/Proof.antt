@@ -218,6 +218,9 @@ high c =
 nothing : {A : Type 0} → (c : tie.At-match3-rest Inv-loop μ-loop) → A
 nothing c = let x = c .before .before in never (head x .loop .inv) (meets x) (high c) (c .match3 .rest .1)
 
+counts-of-requires : tie.Need-counts-of-requires Inv-loop μ-loop
+counts-of-requires c κs = search needs
+
 firsts-of-requires : tie.Need-firsts-of-requires Inv-loop μ-loop
 firsts-of-requires c κs = let s = c .before .before .before .before .before .before in
     sum-fits (s .args .stride) (now (s .args .table)) (s .args .n) (c .counts-of .result) (s .pre .lined .few) (c .counts-of .ensures)
@@ -227,31 +230,112 @@ loop-holds c = let s = c .before .before .before .before .before .before .before
     let a = s .args in
     hold-start (rowsFrom (a .stride) (now (a .table)) 0 (a .n)) (a .present) (a .from) (now (a .schedule)) (now (a .words)) (now (a .log)) (now (a .answers)) (sixteen s) (let r = s .pre .log-room in omega arith) (let r = s .pre .answers-room in omega arith)
 
+shared-slice-read-byte : tie.Need-shared-slice-read-byte Inv-loop μ-loop
+shared-slice-read-byte c = search needs
+
 add-position : tie.Need-add-position Inv-loop μ-loop
 add-position c = record { fits = let a = c .before .loop-test .taken in let b = begins (c .before .before) .pre .early in omega arith }
 
 cast-position : tie.Need-cast-position Inv-loop μ-loop
 cast-position c = record { fits = let a = c .before .loop-test .taken in let b = begins (c .before .before) .pre .early in omega arith }
 
+index8-requires : tie.Need-index8-requires Inv-loop μ-loop
+index8-requires c κs = search needs
+
+add-i : tie.Need-add-i Inv-loop μ-loop
+add-i c = search needs
+
+mul-named : tie.Need-mul-named Inv-loop μ-loop
+mul-named c = search needs
+
+array-copy-out-named : tie.Need-array-copy-out-named Inv-loop μ-loop
+array-copy-out-named c = search needs
+
+enum-told : tie.Need-enum-told Inv-loop μ-loop
+enum-told c = search needs
+
+loop-less : tie.Need-loop-less Inv-loop μ-loop
+loop-less c = search needs
+
 loop-again : tie.Need-loop-again Inv-loop μ-loop
 loop-again c = let s = c .before .before .before in
     let x = s .before in
     hold-still (head x .loop .inv) (meets x) (low s) (here x) (is s) (at-down (head x .loop .inv) (meets x) (low s) (here x) (is s) (c .enum-told .given .1))
+
+enum-told-2 : tie.Need-enum-told-2 Inv-loop μ-loop
+enum-told-2 c = search needs
+
+mul-process : tie.Need-mul-process Inv-loop μ-loop
+mul-process c = search needs
+
+array-copy-out-process : tie.Need-array-copy-out-process Inv-loop μ-loop
+array-copy-out-process c = search needs
+
+mul-if2 : tie.Need-mul-if2 Inv-loop μ-loop
+mul-if2 c = search needs
+
+array-read-if2 : tie.Need-array-read-if2 Inv-loop μ-loop
+array-read-if2 c = search needs
+
+mul-processes : tie.Need-mul-processes Inv-loop μ-loop
+mul-processes c = search needs
+
+array-set-from-processes : tie.Need-array-set-from-processes Inv-loop μ-loop
+array-set-from-processes c = search needs
+
+loop-less-2 : tie.Need-loop-less-2 Inv-loop μ-loop
+loop-less-2 c = search needs
 
 loop-again-2 : tie.Need-loop-again-2 Inv-loop μ-loop
 loop-again-2 c = let s = c .before .before .before .before .before .before in
     let x = s .before in
     hold-record (head x .loop .inv) (meets x) (low s) (here x) (is s) _ (at-idle (head x .loop .inv) (meets x) (low s) (here x) (is s) (c .before .before .before .enum-told2 .given .1) _ (counts-are x) (c .if2 .taken))
 
+loop-less-3 : tie.Need-loop-less-3 Inv-loop μ-loop
+loop-less-3 c = search needs
+
 loop-again-3 : tie.Need-loop-again-3 Inv-loop μ-loop
 loop-again-3 c = let s = c .before .before .before .before .before .before in
     let x = s .before in
     hold-still (head x .loop .inv) (meets x) (low s) (here x) (is s) (at-done (head x .loop .inv) (meets x) (low s) (here x) (is s) (c .before .before .before .enum-told2 .given .1) _ (counts-are x) (c .if2 .left))
 
+enum-told-3 : tie.Need-enum-told-3 Inv-loop μ-loop
+enum-told-3 c = search needs
+
+mul-process-2 : tie.Need-mul-process-2 Inv-loop μ-loop
+mul-process-2 c = search needs
+
+array-copy-out-process-2 : tie.Need-array-copy-out-process-2 Inv-loop μ-loop
+array-copy-out-process-2 c = search needs
+
+mul-processes-2 : tie.Need-mul-processes-2 Inv-loop μ-loop
+mul-processes-2 c = search needs
+
+array-set-from-processes-2 : tie.Need-array-set-from-processes-2 Inv-loop μ-loop
+array-set-from-processes-2 c = search needs
+
+loop-less-4 : tie.Need-loop-less-4 Inv-loop μ-loop
+loop-less-4 c = search needs
+
 loop-again-4 : tie.Need-loop-again-4 Inv-loop μ-loop
 loop-again-4 c = let s = c .before .before .before .before in
     let x = s .before in
     hold-record (head x .loop .inv) (meets x) (low s) (here x) (is s) _ (at-N2 (head x .loop .inv) (meets x) (low s) (here x) (is s) (c .before .enum-told3 .given .1))
+
+enum-told-4 : tie.Need-enum-told-4 Inv-loop μ-loop
+enum-told-4 c = search needs
+
+mul-process-3 : tie.Need-mul-process-3 Inv-loop μ-loop
+mul-process-3 c = search needs
+
+array-copy-out-process-3 : tie.Need-array-copy-out-process-3 Inv-loop μ-loop
+array-copy-out-process-3 c = search needs
+
+mul-start : tie.Need-mul-start Inv-loop μ-loop
+mul-start c = search needs
+
+array-read-start : tie.Need-array-read-start Inv-loop μ-loop
+array-read-start c = search needs
 
 start-requires : tie.Need-start-requires Inv-loop μ-loop
 start-requires c κs = let s = c .before .before .before .before in
@@ -263,10 +347,37 @@ start-requires c κs = let s = c .before .before .before .before in
     let d = begins l .pre .lined .few in
     rw (firsts-are x) (omega arith)
 
+mul-processes-3 : tie.Need-mul-processes-3 Inv-loop μ-loop
+mul-processes-3 c = search needs
+
+array-set-from-processes-3 : tie.Need-array-set-from-processes-3 Inv-loop μ-loop
+array-set-from-processes-3 c = search needs
+
+loop-less-5 : tie.Need-loop-less-5 Inv-loop μ-loop
+loop-less-5 c = search needs
+
 loop-again-5 : tie.Need-loop-again-5 Inv-loop μ-loop
 loop-again-5 c = let s = c .before .before .before .before .before in
     let x = s .before in
     hold-record (head x .loop .inv) (meets x) (low s) (here x) (is s) _ (at-N3 (head x .loop .inv) (meets x) (low s) (here x) (is s) (c .before .before .enum-told4 .given .1) _ (firsts-are x) _ (c .start .ensures))
+
+enum-known-status : tie.Need-enum-known-status Inv-loop μ-loop
+enum-known-status c = search needs
+
+mul-process-4 : tie.Need-mul-process-4 Inv-loop μ-loop
+mul-process-4 c = search needs
+
+array-copy-out-process-4 : tie.Need-array-copy-out-process-4 Inv-loop μ-loop
+array-copy-out-process-4 c = search needs
+
+open-row-requires : tie.Need-open-row-requires Inv-loop μ-loop
+open-row-requires c κs = search needs
+
+index16-requires : tie.Need-index16-requires Inv-loop μ-loop
+index16-requires c κs = search needs
+
+stage-number-requires : tie.Need-stage-number-requires Inv-loop μ-loop
+stage-number-requires c κs = search needs
 
 row-at-requires : tie.Need-row-at-requires Inv-loop μ-loop
 row-at-requires c κs = reach (c .before) .row
@@ -274,17 +385,59 @@ row-at-requires c κs = reach (c .before) .row
 word-now-requires : tie.Need-word-now-requires Inv-loop μ-loop
 word-now-requires c κs = reach (c .before .before .before)
 
+after-read-requires : tie.Need-after-read-requires Inv-loop μ-loop
+after-read-requires c κs = search needs
+
+mul-processes-4 : tie.Need-mul-processes-4 Inv-loop μ-loop
+mul-processes-4 c = search needs
+
+array-set-from-processes-4 : tie.Need-array-set-from-processes-4 Inv-loop μ-loop
+array-set-from-processes-4 c = search needs
+
+loop-less-6 : tie.Need-loop-less-6 Inv-loop μ-loop
+loop-less-6 c = search needs
+
 loop-again-6 : tie.Need-loop-again-6 Inv-loop μ-loop
 loop-again-6 c = let b = c .before .before .before .before .before in
     let s = step-at b in
     let x = s .before in
     hold-record (head x .loop .inv) (meets x) (low s) (here x) (is s) _ (at-A1 (head x .loop .inv) (meets x) (low s) (here x) (is s) (b .before .before .before .before .before .status .given .1) (busy-is b) _ (b .stage-number .ensures) (c .before .before .before .before .match2 .keys1) _ _ _ (c .before .before .before .row-at .ensures ∙ row-found b) (word-is b _ (c .before .word-now .ensures)) (c .after-read .ensures))
 
+busy-requires : tie.Need-busy-requires Inv-loop μ-loop
+busy-requires c κs = search needs
+
+cast-bit-of : tie.Need-cast-bit-of Inv-loop μ-loop
+cast-bit-of c = search needs
+
+bit-of-requires : tie.Need-bit-of-requires Inv-loop μ-loop
+bit-of-requires c κs = search needs
+
+mul-processes-5 : tie.Need-mul-processes-5 Inv-loop μ-loop
+mul-processes-5 c = search needs
+
+array-set-from-processes-5 : tie.Need-array-set-from-processes-5 Inv-loop μ-loop
+array-set-from-processes-5 c = search needs
+
+loop-less-7 : tie.Need-loop-less-7 Inv-loop μ-loop
+loop-less-7 c = search needs
+
 loop-again-7 : tie.Need-loop-again-7 Inv-loop μ-loop
 loop-again-7 c = let b = c .before .before .before in
     let s = step-at b in
     let x = s .before in
     hold-record (head x .loop .inv) (meets x) (low s) (here x) (is s) _ (at-A2 (head x .loop .inv) (meets x) (low s) (here x) (is s) (b .before .before .before .before .before .status .given .1) (busy-is b) _ (b .stage-number .ensures) (c .before .before .match2 .keys2) _ _ (c .bit-of .ensures) (c .before .busy .ensures))
+
+busy-requires-2 : tie.Need-busy-requires-2 Inv-loop μ-loop
+busy-requires-2 c κs = search needs
+
+mul-processes-6 : tie.Need-mul-processes-6 Inv-loop μ-loop
+mul-processes-6 c = search needs
+
+array-set-from-processes-6 : tie.Need-array-set-from-processes-6 Inv-loop μ-loop
+array-set-from-processes-6 c = search needs
+
+loop-less-8 : tie.Need-loop-less-8 Inv-loop μ-loop
+loop-less-8 c = search needs
 
 loop-again-8 : tie.Need-loop-again-8 Inv-loop μ-loop
 loop-again-8 c = let b = c .before .before in
@@ -295,14 +448,32 @@ loop-again-8 c = let b = c .before .before in
 word-now-requires-2 : tie.Need-word-now-requires-2 Inv-loop μ-loop
 word-now-requires-2 c κs = reach (c .before .before)
 
+busy-requires-3 : tie.Need-busy-requires-3 Inv-loop μ-loop
+busy-requires-3 c κs = search needs
+
+mul-processes-7 : tie.Need-mul-processes-7 Inv-loop μ-loop
+mul-processes-7 c = search needs
+
+array-set-from-processes-7 : tie.Need-array-set-from-processes-7 Inv-loop μ-loop
+array-set-from-processes-7 c = search needs
+
 row-at-requires-2 : tie.Need-row-at-requires-2 Inv-loop μ-loop
 row-at-requires-2 c κs = reach (c .before .before .before .before .before) .row
+
+cast-swapped-of : tie.Need-cast-swapped-of Inv-loop μ-loop
+cast-swapped-of c = search needs
+
+swapped-of-requires : tie.Need-swapped-of-requires Inv-loop μ-loop
+swapped-of-requires c κs = search needs
 
 store-word-requires : tie.Need-store-word-requires Inv-loop μ-loop
 store-word-requires c κs = reach (c .before .before .before .before .before .before .before .before)
 
 cast-entry-of : tie.Need-cast-entry-of Inv-loop μ-loop
 cast-entry-of c = position-fits (turn-at (c .before .before .before .before .before .before .before .before .before .before .before))
+
+entry-of-requires : tie.Need-entry-of-requires Inv-loop μ-loop
+entry-of-requires c κs = search needs
 
 insert-row-requires : tie.Need-insert-row-requires Inv-loop μ-loop
 insert-row-requires c κs = log-room (turn-at (c .before .before .before .before .before .before .before .before .before .before .before .before .before))
@@ -333,11 +504,32 @@ loop-again-9 c = let ir = c .before .before in
     (ir .insert-row .kept .0)
     (ir .insert-row .ensures)
 
+busy-requires-4 : tie.Need-busy-requires-4 Inv-loop μ-loop
+busy-requires-4 c κs = search needs
+
+mul-processes-8 : tie.Need-mul-processes-8 Inv-loop μ-loop
+mul-processes-8 c = search needs
+
+array-set-from-processes-8 : tie.Need-array-set-from-processes-8 Inv-loop μ-loop
+array-set-from-processes-8 c = search needs
+
+loop-less-10 : tie.Need-loop-less-10 Inv-loop μ-loop
+loop-less-10 c = search needs
+
 loop-again-10 : tie.Need-loop-again-10 Inv-loop μ-loop
 loop-again-10 c = let b = c .before .before .before .before .before in
     let s = step-at b in
     let x = s .before in
     hold-record (head x .loop .inv) (meets x) (low s) (here x) (is s) _ (at-lost (head x .loop .inv) (meets x) (low s) (here x) (is s) (b .before .before .before .before .before .status .given .1) (busy-is b) _ (b .stage-number .ensures) (c .before .before .before .before .match2 .keys4) _ (word-is b _ (c .before .before .word-now2 .ensures)) (c .before .if3 .left) _ (c .busy4 .ensures))
+
+busy-requires-5 : tie.Need-busy-requires-5 Inv-loop μ-loop
+busy-requires-5 c κs = search needs
+
+mul-processes-9 : tie.Need-mul-processes-9 Inv-loop μ-loop
+mul-processes-9 c = search needs
+
+array-set-from-processes-9 : tie.Need-array-set-from-processes-9 Inv-loop μ-loop
+array-set-from-processes-9 c = search needs
 
 enter-requires : tie.Need-enter-requires Inv-loop μ-loop
 enter-requires c κs = let b = c .before .before .before in
@@ -345,6 +537,9 @@ enter-requires c κs = let b = c .before .before .before in
     let l = head x in
     let r = log-room x in
     (record { size = begins l .pre .lined .size; whole = begins l .pre .lined .whole; row = subst (λ (k : ℕ). k < n l) (sym (row-no b)) (open-in b); rows = omega arith }, r)
+
+loop-less-11 : tie.Need-loop-less-11 Inv-loop μ-loop
+loop-less-11 c = search needs
 
 loop-again-11 : tie.Need-loop-again-11 Inv-loop μ-loop
 loop-again-11 c = let en = c .before .before in
@@ -354,11 +549,41 @@ loop-again-11 c = let en = c .before .before in
     let x = s .before in
     hold-entered (head x .loop .inv) (meets x) (low s) (here x) (is s) _ _ _ _ _ (at-A5 (head x .loop .inv) (meets x) (low s) (here x) (is s) (b .before .before .before .before .before .status .given .1) (busy-is b) _ (b .stage-number .ensures) (bu .before .match2 .keys5) _ (bu .busy5 .ensures)) (row-no b) (row-numbered b) (en .enter .kept .1 .1 .1 .0) (en .enter .ensures)
 
+recovered-of-requires : tie.Need-recovered-of-requires Inv-loop μ-loop
+recovered-of-requires c κs = search needs
+
+busy-requires-6 : tie.Need-busy-requires-6 Inv-loop μ-loop
+busy-requires-6 c κs = search needs
+
+mul-processes-10 : tie.Need-mul-processes-10 Inv-loop μ-loop
+mul-processes-10 c = search needs
+
+array-set-from-processes-10 : tie.Need-array-set-from-processes-10 Inv-loop μ-loop
+array-set-from-processes-10 c = search needs
+
+loop-less-12 : tie.Need-loop-less-12 Inv-loop μ-loop
+loop-less-12 c = search needs
+
 loop-again-12 : tie.Need-loop-again-12 Inv-loop μ-loop
 loop-again-12 c = let b = c .before .before .before in
     let s = step-at b in
     let x = s .before in
     hold-record (head x .loop .inv) (meets x) (low s) (here x) (is s) _ (at-V1 (head x .loop .inv) (meets x) (low s) (here x) (is s) (b .before .before .before .before .before .status .given .1) (busy-is b) _ (b .stage-number .ensures) (c .before .before .match2 .keys6) _ (c .before .recovered-of .ensures) _ (c .busy6 .ensures))
+
+by-checkpoint-requires : tie.Need-by-checkpoint-requires Inv-loop μ-loop
+by-checkpoint-requires c κs = search needs
+
+busy-requires-7 : tie.Need-busy-requires-7 Inv-loop μ-loop
+busy-requires-7 c κs = search needs
+
+mul-processes-11 : tie.Need-mul-processes-11 Inv-loop μ-loop
+mul-processes-11 c = search needs
+
+array-set-from-processes-11 : tie.Need-array-set-from-processes-11 Inv-loop μ-loop
+array-set-from-processes-11 c = search needs
+
+loop-less-13 : tie.Need-loop-less-13 Inv-loop μ-loop
+loop-less-13 c = search needs
 
 loop-again-13 : tie.Need-loop-again-13 Inv-loop μ-loop
 loop-again-13 c = let b = c .before .before .before in
@@ -369,11 +594,38 @@ loop-again-13 c = let b = c .before .before .before in
 word-now-requires-3 : tie.Need-word-now-requires-3 Inv-loop μ-loop
 word-now-requires-3 c κs = reach (c .before .before)
 
+by-bit-requires : tie.Need-by-bit-requires Inv-loop μ-loop
+by-bit-requires c κs = search needs
+
+busy-requires-8 : tie.Need-busy-requires-8 Inv-loop μ-loop
+busy-requires-8 c κs = search needs
+
+mul-processes-12 : tie.Need-mul-processes-12 Inv-loop μ-loop
+mul-processes-12 c = search needs
+
+array-set-from-processes-12 : tie.Need-array-set-from-processes-12 Inv-loop μ-loop
+array-set-from-processes-12 c = search needs
+
+loop-less-14 : tie.Need-loop-less-14 Inv-loop μ-loop
+loop-less-14 c = search needs
+
 loop-again-14 : tie.Need-loop-again-14 Inv-loop μ-loop
 loop-again-14 c = let b = c .before .before .before .before .before in
     let s = step-at b in
     let x = s .before in
     hold-record (head x .loop .inv) (meets x) (low s) (here x) (is s) _ (at-V3 (head x .loop .inv) (meets x) (low s) (here x) (is s) (b .before .before .before .before .before .status .given .1) (busy-is b) _ (b .stage-number .ensures) (c .before .before .before .before .match2 .keys8) _ (word-is b _ (c .before .before .word-now3 .ensures)) _ (c .before .by-bit .ensures) _ (c .busy8 .ensures))
+
+busy-requires-9 : tie.Need-busy-requires-9 Inv-loop μ-loop
+busy-requires-9 c κs = search needs
+
+mul-processes-13 : tie.Need-mul-processes-13 Inv-loop μ-loop
+mul-processes-13 c = search needs
+
+array-set-from-processes-13 : tie.Need-array-set-from-processes-13 Inv-loop μ-loop
+array-set-from-processes-13 c = search needs
+
+loop-less-15 : tie.Need-loop-less-15 Inv-loop μ-loop
+loop-less-15 c = search needs
 
 loop-again-15 : tie.Need-loop-again-15 Inv-loop μ-loop
 loop-again-15 c = let b = c .before .before in
@@ -381,14 +633,29 @@ loop-again-15 c = let b = c .before .before in
     let x = s .before in
     hold-record (head x .loop .inv) (meets x) (low s) (here x) (is s) _ (at-V4 (head x .loop .inv) (meets x) (low s) (here x) (is s) (b .before .before .before .before .before .status .given .1) (busy-is b) _ (b .stage-number .ensures) (c .before .match2 .keys9) _ (c .busy9 .ensures))
 
+reply-of-requires : tie.Need-reply-of-requires Inv-loop μ-loop
+reply-of-requires c κs = search needs
+
+mul-processes-14 : tie.Need-mul-processes-14 Inv-loop μ-loop
+mul-processes-14 c = search needs
+
+array-set-from-processes-14 : tie.Need-array-set-from-processes-14 Inv-loop μ-loop
+array-set-from-processes-14 c = search needs
+
 cast-entry-of-2 : tie.Need-cast-entry-of-2 Inv-loop μ-loop
 cast-entry-of-2 c = position-fits (turn-at (c .before .before))
+
+entry-of-requires-2 : tie.Need-entry-of-requires-2 Inv-loop μ-loop
+entry-of-requires-2 c κs = search needs
 
 add-answer-requires : tie.Need-add-answer-requires Inv-loop μ-loop
 add-answer-requires c κs = answers-room (turn-at (c .before .before .before .before))
 
 add-answer-rows : tie.Need-add-answer-rows Inv-loop μ-loop
 add-answer-rows c = answers-fit (turn-at (c .before .before .before .before .before .before .before))
+
+loop-less-16 : tie.Need-loop-less-16 Inv-loop μ-loop
+loop-less-16 c = search needs
 
 loop-again-16 : tie.Need-loop-again-16 Inv-loop μ-loop
 loop-again-16 c = let aa = c .before .before in
@@ -405,20 +672,80 @@ loop-again-16 c = let aa = c .before .before in
     (aa .add-answer .kept .0)
     (aa .add-answer .ensures)
 
+mul-process-5 : tie.Need-mul-process-5 Inv-loop μ-loop
+mul-process-5 c = search needs
+
+array-copy-out-process-5 : tie.Need-array-copy-out-process-5 Inv-loop μ-loop
+array-copy-out-process-5 c = search needs
+
+mul-processes-15 : tie.Need-mul-processes-15 Inv-loop μ-loop
+mul-processes-15 c = search needs
+
+array-set-from-processes-15 : tie.Need-array-set-from-processes-15 Inv-loop μ-loop
+array-set-from-processes-15 c = search needs
+
+loop-less-17 : tie.Need-loop-less-17 Inv-loop μ-loop
+loop-less-17 c = search needs
+
 loop-again-17 : tie.Need-loop-again-17 Inv-loop μ-loop
 loop-again-17 c = let x = c .before .before .before in
     let k = c .before .match3 .keys1 in
     hold-crash (head x .loop .inv) (meets x) (let e : byte (head x) / 16 ≡ 1 = k in omega arith) (here x) k
+
+mul-named-2 : tie.Need-mul-named-2 Inv-loop μ-loop
+mul-named-2 c = search needs
+
+array-copy-out-named-2 : tie.Need-array-copy-out-named-2 Inv-loop μ-loop
+array-copy-out-named-2 c = search needs
+
+enum-told-5 : tie.Need-enum-told-5 Inv-loop μ-loop
+enum-told-5 c = search needs
+
+mul-process-6 : tie.Need-mul-process-6 Inv-loop μ-loop
+mul-process-6 c = search needs
+
+array-copy-out-process-6 : tie.Need-array-copy-out-process-6 Inv-loop μ-loop
+array-copy-out-process-6 c = search needs
+
+enum-told-6 : tie.Need-enum-told-6 Inv-loop μ-loop
+enum-told-6 c = search needs
+
+mul-processes-16 : tie.Need-mul-processes-16 Inv-loop μ-loop
+mul-processes-16 c = search needs
+
+array-set-from-processes-16 : tie.Need-array-set-from-processes-16 Inv-loop μ-loop
+array-set-from-processes-16 c = search needs
+
+loop-less-18 : tie.Need-loop-less-18 Inv-loop μ-loop
+loop-less-18 c = search needs
 
 loop-again-18 : tie.Need-loop-again-18 Inv-loop μ-loop
 loop-again-18 c = let x = c .before .before .before .before .before .before .before .before in
     let k = c .before .before .before .before .before .before .match3 .keys2 in
     hold-wake-idle (head x .loop .inv) (meets x) (let e : byte (head x) / 16 ≡ 2 = k in omega arith) (here x) k (c .before .before .before .enum-told5 .given .1) (c .enum-told6 .given .1)
 
+enum-told-7 : tie.Need-enum-told-7 Inv-loop μ-loop
+enum-told-7 c = search needs
+
+busy-requires-10 : tie.Need-busy-requires-10 Inv-loop μ-loop
+busy-requires-10 c κs = search needs
+
+mul-processes-17 : tie.Need-mul-processes-17 Inv-loop μ-loop
+mul-processes-17 c = search needs
+
+array-set-from-processes-17 : tie.Need-array-set-from-processes-17 Inv-loop μ-loop
+array-set-from-processes-17 c = search needs
+
+loop-less-19 : tie.Need-loop-less-19 Inv-loop μ-loop
+loop-less-19 c = search needs
+
 loop-again-19 : tie.Need-loop-again-19 Inv-loop μ-loop
 loop-again-19 c = let x = c .before .before .before .before .before .before .before .before .before in
     let k = c .before .before .before .before .before .before .before .match3 .keys2 in
     hold-wake-busy (head x .loop .inv) (meets x) (let e : byte (head x) / 16 ≡ 2 = k in omega arith) (here x) k (c .before .before .before .before .enum-told5 .given .1) _ (c .before .enum-told7 .given .1) _ (c .busy10 .ensures)
+
+loop-less-20 : tie.Need-loop-less-20 Inv-loop μ-loop
+loop-less-20 c = search needs
 
 loop-again-20 : tie.Need-loop-again-20 Inv-loop μ-loop
 loop-again-20 c = let x = c .before .before .before .before in
@@ -428,15 +755,27 @@ loop-again-20 c = let x = c .before .before .before .before in
 crash-first-requires : tie.Need-crash-first-requires Inv-loop μ-loop
 crash-first-requires c κs = begins (head (c .before .before)) .pre .present
 
+loop-less-21 : tie.Need-loop-less-21 Inv-loop μ-loop
+loop-less-21 c = search needs
+
 loop-again-21 : tie.Need-loop-again-21 Inv-loop μ-loop
 loop-again-21 c = let x = c .before .before .before in
     hold-all (head x .loop .inv) (meets x) (c .before .match3 .keys3) _ (c .crash-first .ensures)
 
+loop-less-22 : tie.Need-loop-less-22 Inv-loop μ-loop
+loop-less-22 c = search needs
+
 loop-again-22 : tie.Need-loop-again-22 Inv-loop μ-loop
 loop-again-22 c = nothing (c .before)
 
+loop-less-23 : tie.Need-loop-less-23 Inv-loop μ-loop
+loop-less-23 c = search needs
+
 loop-again-23 : tie.Need-loop-again-23 Inv-loop μ-loop
 loop-again-23 c = nothing (c .before .before)
+
+loop-less-24 : tie.Need-loop-less-24 Inv-loop μ-loop
+loop-less-24 c = search needs
 
 loop-again-24 : tie.Need-loop-again-24 Inv-loop μ-loop
 loop-again-24 c = nothing (c .before .before)
@@ -464,162 +803,162 @@ run-bytes-spec =
     (tie.spec
     Inv-loop
     μ-loop
-    (λ c κs. search needs)
+    counts-of-requires
     firsts-of-requires
     loop-holds
-    (λ c. search needs)
+    shared-slice-read-byte
     add-position
     cast-position
-    (λ c κs. search needs)
-    (λ c. search needs)
-    (λ c. search needs)
-    (λ c. search needs)
-    (λ c. search needs)
-    (λ c. search needs)
+    index8-requires
+    add-i
+    mul-named
+    array-copy-out-named
+    enum-told
+    loop-less
     loop-again
-    (λ c. search needs)
-    (λ c. search needs)
-    (λ c. search needs)
-    (λ c. search needs)
-    (λ c. search needs)
-    (λ c. search needs)
-    (λ c. search needs)
-    (λ c. search needs)
+    enum-told-2
+    mul-process
+    array-copy-out-process
+    mul-if2
+    array-read-if2
+    mul-processes
+    array-set-from-processes
+    loop-less-2
     loop-again-2
-    (λ c. search needs)
+    loop-less-3
     loop-again-3
-    (λ c. search needs)
-    (λ c. search needs)
-    (λ c. search needs)
-    (λ c. search needs)
-    (λ c. search needs)
-    (λ c. search needs)
+    enum-told-3
+    mul-process-2
+    array-copy-out-process-2
+    mul-processes-2
+    array-set-from-processes-2
+    loop-less-4
     loop-again-4
-    (λ c. search needs)
-    (λ c. search needs)
-    (λ c. search needs)
-    (λ c. search needs)
-    (λ c. search needs)
+    enum-told-4
+    mul-process-3
+    array-copy-out-process-3
+    mul-start
+    array-read-start
     start-requires
-    (λ c. search needs)
-    (λ c. search needs)
-    (λ c. search needs)
+    mul-processes-3
+    array-set-from-processes-3
+    loop-less-5
     loop-again-5
-    (λ c. search needs)
-    (λ c. search needs)
-    (λ c. search needs)
-    (λ c κs. search needs)
-    (λ c κs. search needs)
-    (λ c κs. search needs)
+    enum-known-status
+    mul-process-4
+    array-copy-out-process-4
+    open-row-requires
+    index16-requires
+    stage-number-requires
     row-at-requires
     word-now-requires
-    (λ c κs. search needs)
-    (λ c. search needs)
-    (λ c. search needs)
-    (λ c. search needs)
+    after-read-requires
+    mul-processes-4
+    array-set-from-processes-4
+    loop-less-6
     loop-again-6
-    (λ c κs. search needs)
-    (λ c. search needs)
-    (λ c κs. search needs)
-    (λ c. search needs)
-    (λ c. search needs)
-    (λ c. search needs)
+    busy-requires
+    cast-bit-of
+    bit-of-requires
+    mul-processes-5
+    array-set-from-processes-5
+    loop-less-7
     loop-again-7
-    (λ c κs. search needs)
-    (λ c. search needs)
-    (λ c. search needs)
-    (λ c. search needs)
+    busy-requires-2
+    mul-processes-6
+    array-set-from-processes-6
+    loop-less-8
     loop-again-8
     word-now-requires-2
-    (λ c κs. search needs)
-    (λ c. search needs)
-    (λ c. search needs)
+    busy-requires-3
+    mul-processes-7
+    array-set-from-processes-7
     row-at-requires-2
-    (λ c. search needs)
-    (λ c κs. search needs)
+    cast-swapped-of
+    swapped-of-requires
     store-word-requires
     cast-entry-of
-    (λ c κs. search needs)
+    entry-of-requires
     insert-row-requires
     add-log-rows
     loop-less-9
     loop-again-9
-    (λ c κs. search needs)
-    (λ c. search needs)
-    (λ c. search needs)
-    (λ c. search needs)
+    busy-requires-4
+    mul-processes-8
+    array-set-from-processes-8
+    loop-less-10
     loop-again-10
-    (λ c κs. search needs)
-    (λ c. search needs)
-    (λ c. search needs)
+    busy-requires-5
+    mul-processes-9
+    array-set-from-processes-9
     enter-requires
-    (λ c. search needs)
+    loop-less-11
     loop-again-11
-    (λ c κs. search needs)
-    (λ c κs. search needs)
-    (λ c. search needs)
-    (λ c. search needs)
-    (λ c. search needs)
+    recovered-of-requires
+    busy-requires-6
+    mul-processes-10
+    array-set-from-processes-10
+    loop-less-12
     loop-again-12
-    (λ c κs. search needs)
-    (λ c κs. search needs)
-    (λ c. search needs)
-    (λ c. search needs)
-    (λ c. search needs)
+    by-checkpoint-requires
+    busy-requires-7
+    mul-processes-11
+    array-set-from-processes-11
+    loop-less-13
     loop-again-13
     word-now-requires-3
-    (λ c κs. search needs)
-    (λ c κs. search needs)
-    (λ c. search needs)
-    (λ c. search needs)
-    (λ c. search needs)
+    by-bit-requires
+    busy-requires-8
+    mul-processes-12
+    array-set-from-processes-12
+    loop-less-14
     loop-again-14
-    (λ c κs. search needs)
-    (λ c. search needs)
-    (λ c. search needs)
-    (λ c. search needs)
+    busy-requires-9
+    mul-processes-13
+    array-set-from-processes-13
+    loop-less-15
     loop-again-15
-    (λ c κs. search needs)
-    (λ c. search needs)
-    (λ c. search needs)
+    reply-of-requires
+    mul-processes-14
+    array-set-from-processes-14
     cast-entry-of-2
-    (λ c κs. search needs)
+    entry-of-requires-2
     add-answer-requires
     add-answer-rows
-    (λ c. search needs)
+    loop-less-16
     loop-again-16
-    (λ c. search needs)
-    (λ c. search needs)
-    (λ c. search needs)
-    (λ c. search needs)
-    (λ c. search needs)
+    mul-process-5
+    array-copy-out-process-5
+    mul-processes-15
+    array-set-from-processes-15
+    loop-less-17
     loop-again-17
-    (λ c. search needs)
-    (λ c. search needs)
-    (λ c. search needs)
-    (λ c. search needs)
-    (λ c. search needs)
-    (λ c. search needs)
-    (λ c. search needs)
-    (λ c. search needs)
-    (λ c. search needs)
+    mul-named-2
+    array-copy-out-named-2
+    enum-told-5
+    mul-process-6
+    array-copy-out-process-6
+    enum-told-6
+    mul-processes-16
+    array-set-from-processes-16
+    loop-less-18
     loop-again-18
-    (λ c. search needs)
-    (λ c κs. search needs)
-    (λ c. search needs)
-    (λ c. search needs)
-    (λ c. search needs)
+    enum-told-7
+    busy-requires-10
+    mul-processes-17
+    array-set-from-processes-17
+    loop-less-19
     loop-again-19
-    (λ c. search needs)
+    loop-less-20
     loop-again-20
     crash-first-requires
-    (λ c. search needs)
+    loop-less-21
     loop-again-21
-    (λ c. search needs)
+    loop-less-22
     loop-again-22
-    (λ c. search needs)
+    loop-less-23
     loop-again-23
-    (λ c. search needs)
+    loop-less-24
     loop-again-24
     add-t297
     same-length
