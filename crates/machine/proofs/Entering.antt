@@ -22,7 +22,7 @@ use Rattle.machine.specs.declared.Work.{Work}
 use Rattle.machine.specs.Records.{nobody}
 use Rattle.machine.specs.Steps.{entry, storing}
 use Rattle.machine.specs.Machine.{effectOf, logAfter}
-use Rattle.machine.specs.Part.{falseAt, entered, Entered}
+use Rattle.machine.specs.Promises.{falseAt, entered, Enters}
 
 -- the position of a false: that of the swap that beat it, or that of its A1
 module _ (rows : List Row) (row found : Row) (log : List Entry) (w : Work) (v : ℕ) (is : found ≡ row) (read : v ≡ value (w .seen)) where
@@ -36,49 +36,49 @@ module _ (rows : List Row) (row found : Row) (log : List Entry) (w : Work) (v : 
   unfolding falseAt
   other-at n = rw (ne-eqb (value (w .seen)) (row .old) (λ e. n (read ∙ e ∙ ap (λ (r : Row). r .old) (sym is))))
 
-module _ (rows : List Row) (row : Row) (log : List ℕ) (m p : ℕ) (w : Work) where
+module _ (rows : List Row) (row : Row) (log : List ℕ) (m : ℕ) (w : Work) where
   -- what the log holds afterwards, by the answer
   after-as : Maybe → List Entry
-  after-as a = logAfter (effectOf rows (rowsOf m log) p 0 (w .row) (row .word) (storing row nobody (w .seen) (w .«read_at») (w .«tried_at») a)) (rowsOf m log)
+  after-as a = logAfter (effectOf rows (rowsOf m log) (w .process) 0 (w .row) (row .word) (storing row nobody (w .seen) (w .«read_at») (w .«tried_at») a)) (rowsOf m log)
 
-  is-as : (a : Maybe) → w .answer ≡ a → entered rows row (rowsOf m log) p w ≡ after-as a
+  is-as : (a : Maybe) → w .answer ≡ a → entered rows row (rowsOf m log) w ≡ after-as a
   unfolding entered after-as
-  is-as a e = ap (λ a. logAfter (effectOf rows (rowsOf m log) p 0 (w .row) (row .word) (storing row nobody (w .seen) (w .«read_at») (w .«tried_at») a)) (rowsOf m log)) e
+  is-as a e = ap (λ a. logAfter (effectOf rows (rowsOf m log) (w .process) 0 (w .row) (row .word) (storing row nobody (w .seen) (w .«read_at») (w .«tried_at») a)) (rowsOf m log)) e
 
-  false-as : after-as (Is False) ≡ insert (entry (falseAt rows row (rowsOf m log) w) p (w .row) (Is False)) (rowsOf m log)
+  false-as : after-as (Is False) ≡ insert (entry (falseAt rows row (rowsOf m log) w) (w .process) (w .row) (Is False)) (rowsOf m log)
   unfolding after-as storing falseAt
   false-as = go (eqb (value (w .seen)) (row .old))
     where
-      go : (c : Bool) → logAfter (effectOf rows (rowsOf m log) p 0 (w .row) (row .word) (cond c (Loses nobody (w .«read_at») (w .«tried_at»)) (Logs nobody (w .«read_at») False))) (rowsOf m log)
-          ≡ insert (entry (cond c (firstSwap rows (row .word) (w .«read_at») (w .«tried_at») (rowsOf m log)) (w .«read_at»)) p (w .row) (Is False)) (rowsOf m log)
+      go : (c : Bool) → logAfter (effectOf rows (rowsOf m log) (w .process) 0 (w .row) (row .word) (cond c (Loses nobody (w .«read_at») (w .«tried_at»)) (Logs nobody (w .«read_at») False))) (rowsOf m log)
+          ≡ insert (entry (cond c (firstSwap rows (row .word) (w .«read_at») (w .«tried_at») (rowsOf m log)) (w .«read_at»)) (w .process) (w .row) (Is False)) (rowsOf m log)
       go true = refl
       go false = refl
 
-  stays : m * 5 ≤ length log → entered rows row (rowsOf m log) p w ≡ rowsOf m log → Entered rows row log m p w m log
+  stays : m * 5 ≤ length log → entered rows row (rowsOf m log) w ≡ rowsOf m log → Enters rows row log m w m log
   stays room e = record { count = sym (ap length e ∙ length-rowsOf m log); log-is = rows-same m log room ∙ ap (λ es. infront (flat es) log) (sym e) }
 
-  grows : (e : Entry) (log′ : List ℕ) → entered rows row (rowsOf m log) p w ≡ insert e (rowsOf m log) → log′ ≡ infront (flat (insert e (rowsOf m log))) log → Entered rows row log m p w (m + 1) log′
+  grows : (e : Entry) (log′ : List ℕ) → entered rows row (rowsOf m log) w ≡ insert e (rowsOf m log) → log′ ≡ infront (flat (insert e (rowsOf m log))) log → Enters rows row log m w (m + 1) log′
   grows e log′ is put = record {
     count = sym (ap length is ∙ length-insert e (rowsOf m log) ∙ ap (λ n. n + 1) (length-rowsOf m log));
     log-is = put ∙ ap (λ es. infront (flat es) log) (sym is);
   }
 
-  pub enter-none : m * 5 ≤ length log → w .answer ≡ None → Entered rows row log m p w m log
+  pub enter-none : m * 5 ≤ length log → w .answer ≡ None → Enters rows row log m w m log
   unfolding after-as storing
   enter-none room e = stays room (is-as None e)
 
-  pub enter-true : m * 5 ≤ length log → w .answer ≡ Is True → Entered rows row log m p w m log
+  pub enter-true : m * 5 ≤ length log → w .answer ≡ Is True → Enters rows row log m w m log
   unfolding after-as storing
   enter-true room e = stays room (is-as (Is True) e)
 
-  pub enter-value : (said : Answer) → w .answer ≡ Is said → (v : ℕ) → said ≡ Value v → (e : Entry) (log′ : List ℕ) → e ≡ entry (w .«read_at») p (w .row) (Is said)
-      → log′ ≡ infront (flat (insert e (rowsOf m log))) log → Entered rows row log m p w (m + 1) log′
+  pub enter-value : (said : Answer) → w .answer ≡ Is said → (v : ℕ) → said ≡ Value v → (e : Entry) (log′ : List ℕ) → e ≡ entry (w .«read_at») (w .process) (w .row) (Is said)
+      → log′ ≡ infront (flat (insert e (rowsOf m log))) log → Enters rows row log m w (m + 1) log′
   unfolding after-as storing
   enter-value said a v is e log′ en put =
-      grows e log′ (is-as (Is (Value v)) (a ∙ ap Is is) ∙ ap (λ e. insert e (rowsOf m log)) (sym (en ∙ ap (λ s. entry (w .«read_at») p (w .row) (Is s)) is))) put
+      grows e log′ (is-as (Is (Value v)) (a ∙ ap Is is) ∙ ap (λ e. insert e (rowsOf m log)) (sym (en ∙ ap (λ s. entry (w .«read_at») (w .process) (w .row) (Is s)) is))) put
 
-  pub enter-false : (said : Answer) → w .answer ≡ Is said → said ≡ False → (q : ℕ) (e : Entry) (log′ : List ℕ) → q ≡ falseAt rows row (rowsOf m log) w → e ≡ entry q p (w .row) (Is said)
-      → log′ ≡ infront (flat (insert e (rowsOf m log))) log → Entered rows row log m p w (m + 1) log′
+  pub enter-false : (said : Answer) → w .answer ≡ Is said → said ≡ False → (q : ℕ) (e : Entry) (log′ : List ℕ) → q ≡ falseAt rows row (rowsOf m log) w → e ≡ entry q (w .process) (w .row) (Is said)
+      → log′ ≡ infront (flat (insert e (rowsOf m log))) log → Enters rows row log m w (m + 1) log′
   enter-false said a is q e log′ at en put =
       grows e log′
-      (is-as (Is False) (a ∙ ap Is is) ∙ false-as ∙ ap (λ e. insert e (rowsOf m log)) (sym (en ∙ ap₂ (λ q s. entry q p (w .row) (Is s)) at is))) put
+      (is-as (Is False) (a ∙ ap Is is) ∙ false-as ∙ ap (λ e. insert e (rowsOf m log)) (sym (en ∙ ap₂ (λ q s. entry q (w .process) (w .row) (Is s)) at is))) put

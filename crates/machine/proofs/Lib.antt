@@ -1,3 +1,2 @@
 pub mod Down
 pub mod Entering
-pub mod Loop

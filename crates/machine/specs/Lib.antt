@@ -5,7 +5,7 @@ pub mod Steps
 pub mod Machine
 pub mod Reach
 pub mod Laws
-pub mod Part
+pub mod Promises
 pub mod OneByte
 pub mod Limits
 pub mod Only

@@ -1,16 +1,27 @@
-// The machine: a process's record, and a schedule, or a part of one, run over records and lent buffers.
+// The machine: a process's record, and what one step does with it, with a word and with the log.
 //
-// What a byte means stands in specs/Steps and specs/Machine; `run_bytes` carries it out.
-mod engine;
+// What a byte means stands in specs/Steps and specs/Machine. Here are the small functions of which a step consists;
+// the crate `engine` goes through a schedule with them.
 mod operation;
 mod records;
 mod recovery;
 mod said;
 
-pub use engine::run_bytes;
+pub use operation::after_read;
+pub use operation::enter;
+pub use operation::store_word;
+pub use operation::word_now;
+pub use records::busy;
+pub use records::crash_first;
 pub use records::fresh;
 pub use records::open_row;
 pub use records::stage_number;
+pub use records::start;
+pub use recovery::by_bit;
+pub use recovery::by_checkpoint;
+pub use recovery::recovered_of;
+pub use recovery::reply_of;
+pub use said::entry_of;
 
 // The stages of an operation and of recovery.
 pub enum Stage {
@@ -72,18 +83,10 @@ pub struct Process {
     pub begun: u16,
 }
 
-// Where a run stands: the records, of which the first P are processes, the position of the next byte, and how many
-// rows stand in the log and in the answers.
-pub struct Standing {
-    pub processes: [Process; 16],
-    pub position: usize,
-    pub log: usize,
-    pub answers: usize,
-}
-
-// What a process is at work on: its open row, the word it read, the positions of its A1 and A4, and the answer that
-// it is to store.
+// Work in hand: the process, its open row, the word it read, the positions of its A1 and A4, and the answer that it
+// is to store.
 pub struct Work {
+    pub process: u8,
     pub row: u16,
     pub seen: u32,
     pub read_at: u16,

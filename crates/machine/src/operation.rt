@@ -5,6 +5,7 @@ use super::Stage;
 use super::Status;
 use super::Work;
 use super::said::entry_of;
+use rows::Sought;
 use runfile::Row;
 ghost use mathlib.Core.Path.{_≡_};
 ghost use Prim.Native.Nat.{_+_, _*_, _≤_};
@@ -13,13 +14,13 @@ ghost use Rattle.runfile.specs.Layout.{rowOfTable};
 ghost use Rattle.runfile.specs.Operations.{rowsFrom};
 ghost use Rattle.rows.specs.Buffers.{rowsOf};
 ghost use Rattle.machine.specs.Reach.{Reach, Looked};
-ghost use Rattle.machine.specs.Part.{falseAt, Entered};
+ghost use Rattle.machine.specs.Promises.{WordNow, WordStored, FalseAt, Enterable, Entered};
 ghost use Rattle.machine.specs.Steps.{afterRead};
 
 // The word that row k is on, as it stands now.
 pub fn word_now(table: &[u8], stride: usize, k: usize, words: &[u32]) -> u32
     requires { ⌜ Reach stride (now table) k (now words) ⌝ }
-    ensures { λ r. ⌜ r ≡ getD (now (words .entry)) (rowOfTable stride (now (table .entry)) k .word) 0 ⌝ }
+    ensures { λ r. ⌜ WordNow stride (now (table .entry)) k (now (words .entry)) r ⌝ }
 {
     let w = runfile::index8(runfile::word_of_row(table, stride, k));
     words[w]
@@ -28,7 +29,7 @@ pub fn word_now(table: &[u8], stride: usize, k: usize, words: &[u32]) -> u32
 // Puts a number into the word that row k is on.
 pub fn store_word(table: &[u8], stride: usize, k: usize, words: &mut [u32], new: u32)
     requires { ⌜ Reach stride (now table) k (now words) ⌝ }
-    ensures { λ _. ⌜ now (words .exit) ≡ set (now (words .entry)) (rowOfTable stride (now (table .entry)) k .word) new ⌝ }
+    ensures { λ _. ⌜ WordStored stride (now (table .entry)) k (now (words .entry)) new (now (words .exit)) ⌝ }
 {
     let w = runfile::index8(runfile::word_of_row(table, stride, k));
     words[w] = new;
@@ -69,14 +70,19 @@ pub fn after_read(row: Row, word: u32, position: u16) -> Status
 // its word after its A1; any other that of its A1.
 fn false_at(table: &[u8], stride: usize, n: usize, log: &[u32], log_rows: usize, work: Work) -> u32
     requires { ⌜ Looked stride (now table) n (work .row) (now log) «log_rows» ⌝ }
-    ensures { λ r. ⌜ r ≡ falseAt (rowsFrom stride (now (table .entry)) 0 n) (rowOfTable stride (now (table .entry)) (work .row)) (rowsOf «log_rows» (now (log .entry))) work ⌝ }
+    ensures { λ r. ⌜ FalseAt stride (now (table .entry)) n (now (log .entry)) «log_rows» work r ⌝ }
 {
     let k = runfile::index16(work.row);
     let row = runfile::row_at(table, stride, k);
     let read_at = work.read_at as u32;
     let tried_at = work.tried_at as u32;
     if word::value_of(work.seen) == row.old as u32 {
-        return rows::first_swap_after(table, stride, n, log, log_rows, read_at, row.word, tried_at);
+        let sought = Sought {
+            word: row.word,
+            after: read_at,
+            none: tried_at,
+        };
+        return rows::first_swap_after(table, stride, n, log, log_rows, sought);
     }
     read_at
 }
@@ -88,11 +94,10 @@ pub fn enter(
     n: usize,
     log: &mut [u32],
     log_rows: usize,
-    me: u8,
     work: Work,
 ) -> usize
-    requires { ⌜ Looked stride (now table) n (work .row) (now log) «log_rows» × («log_rows» * 5 + 5 ≤ length (now log)) ⌝ }
-    ensures { λ r. ⌜ Entered (rowsFrom stride (now (table .entry)) 0 n) (rowOfTable stride (now (table .entry)) (work .row)) (now (log .entry)) «log_rows» me work r (now (log .exit)) ⌝ }
+    requires { ⌜ Enterable stride (now table) n (work .row) (now log) «log_rows» ⌝ }
+    ensures { λ r. ⌜ Entered stride (now (table .entry)) n (now (log .entry)) «log_rows» work r (now (log .exit)) ⌝ }
 {
     let answer = work.answer;
     let Maybe::Is(said) = answer else {
@@ -101,13 +106,13 @@ pub fn enter(
     match said {
         Answer::True => log_rows,
         Answer::Value(_) => {
-            let read = entry_of(work.read_at as u32, me, work.row, answer);
+            let read = entry_of(work.read_at as u32, work.process, work.row, answer);
             rows::insert_row(log, log_rows, read);
             log_rows + 1
         }
         Answer::False => {
             let at = false_at(table, stride, n, log, log_rows, work);
-            let lost = entry_of(at, me, work.row, answer);
+            let lost = entry_of(at, work.process, work.row, answer);
             rows::insert_row(log, log_rows, lost);
             log_rows + 1
         }

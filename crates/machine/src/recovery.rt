@@ -6,7 +6,7 @@ ghost use mathlib.Core.Path.{_≡_};
 ghost use Prim.Native.Nat.{_<_};
 ghost use Rattle.word.specs.Word.{bit};
 ghost use Rattle.machine.specs.declared.Stage.the-variants as stage;
-ghost use Rattle.machine.specs.Part.{replyAt};
+ghost use Rattle.machine.specs.Promises.{replyAt};
 ghost use Rattle.machine.specs.Steps.{recovered, sameBit};
 
 // V1: "an answer stored goes to V5, else V2".

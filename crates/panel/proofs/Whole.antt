@@ -9,11 +9,12 @@ use Rattle.runfile.specs.Layout.{rowsStart, strideOf}
 use Rattle.runfile.specs.Operations.{tableOf}
 use Rattle.runfile.specs.Lawful.{LawfulByte, lawful-byte}
 use Rattle.machine.specs.declared.Process.{Process}
-use Rattle.machine.specs.declared.Standing.{Standing}
+use Rattle.engine.specs.declared.Standing.{Standing}
+use Rattle.engine.specs.declared.Part.{Part}
 use Rattle.machine.specs.Records.{nobody}
 use Rattle.machine.specs.Laws.{Sane}
 use Rattle.machine.specs.Machine.{after}
-use Rattle.machine.specs.Part.{Runnable, Runs, stateLent}
+use Rattle.engine.specs.Part.{Runnable, Runs, stateLent}
 use Rattle.run.specs.Parts.{part-all, table-part, lined-part, words-part}
 use Rattle.panel.specs.declared.Outcome.{Outcome}
 use Rattle.panel.specs.declared.Outcome.the-variants.{Went, Refused}
@@ -27,6 +28,10 @@ module _ (h : Header) (f : List ℕ) (k : Pressing) (l : Lent) (ft : Fit h f k l
   abbrev from : Standing
   from = record { processes = l .processes; position = k .position; log = k .logRows; answers = k .answerRows }
 
+  -- the key as a part of a schedule
+  abbrev partOf : (stride rows P : ℕ) → Part
+  partOf stride rows P = record { stride = stride; rows = rows; present = P; from = from }
+
   lawful-key : (i : ℕ) → i < 1 → LawfulByte (h .processes) (getD (k .byte ∷ []) i 0)
   lawful-key zero b = lawful-byte (h .processes) (k .byte) (ft .action)
   lawful-key (suc i) b = absurd (omega arith)
@@ -36,7 +41,7 @@ module _ (h : Header) (f : List ℕ) (k : Pressing) (l : Lent) (ft : Fit h f k l
 
   module _ (stride rows-at n P : ℕ) (z : stride ≡ strideOf h) (e : rows-at ≡ rowsStart h) (q : n ≡ h .rows) (here : P ≡ h .processes) where
     -- it may be run
-    pub able-in : Runnable stride (take (length f - rows-at) (drop rows-at f)) n (k .byte ∷ []) (l .words) (l .log) (l .answers) P from
+    pub able-in : Runnable (partOf stride n P) (take (length f - rows-at) (drop rows-at f)) (k .byte ∷ []) (l .words) (l .log) (l .answers)
     able-in =
         let lined = lined-part h f ample (ft .lawful) in
         let early = ft .early in
@@ -55,7 +60,7 @@ module _ (h : Header) (f : List ℕ) (k : Pressing) (l : Lent) (ft : Fit h f k l
         })
 
     -- and what it leaves is what the key comes to
-    pub went : (r : Standing) (words log answers : List ℕ) → Runs stride (take (length f - rows-at) (drop rows-at f)) n (k .byte ∷ []) (l .words) (l .log) (l .answers) P from r words log answers
+    pub went : (r : Standing) (words log answers : List ℕ) → Runs (partOf stride n P) (take (length f - rows-at) (drop rows-at f)) (k .byte ∷ []) (l .words) (l .log) (l .answers) r words log answers
         → Leaves (carried h f k l) (Went (r .log) (r .answers)) (r .processes) words log answers
     unfolding stepped stateOf after stateLent
     went r words log answers left =

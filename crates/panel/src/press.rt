@@ -3,8 +3,9 @@ use super::After;
 use super::Outcome;
 use super::Verdict;
 use super::judge::verdict_of;
+use engine::Part;
+use engine::Standing;
 use machine::Process;
-use machine::Standing;
 ghost use Prim.Native.Nat.{_≤_};
 ghost use Rattle.panel.specs.Press as press;
 ghost use Rattle.panel.specs.Press.{Leaves};
@@ -55,17 +56,13 @@ pub fn press(
                 log: log_rows,
                 answers: answer_rows,
             };
-            let left = machine::run_bytes(
-                &file[rows_at..],
+            let part = Part {
                 stride,
                 rows,
-                &key,
-                words,
-                log,
-                answers,
                 present,
                 from,
-            );
+            };
+            let left = engine::run_bytes(&file[rows_at..], &key, words, log, answers, part);
             let moved = left.processes;
             let outcome = Outcome::Went {
                 log: left.log,

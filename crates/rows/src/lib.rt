@@ -22,6 +22,14 @@ pub struct Entry {
     pub value: u32,
 }
 
+// What a lost swap looks for in the log: a successful swap on its word after this position, that of its A1. Where there
+// is none, `none` is taken for the swap's position.
+pub struct Sought {
+    pub word: u8,
+    pub after: u32,
+    pub none: u32,
+}
+
 // Writes a row's five numbers from a place on.
 fn write_row(buffer: &mut [u32], at: usize, entry: Entry)
     requires { ⌜ at + 5 ≤ length (now buffer) ⌝ }

@@ -1,15 +1,15 @@
 // The log, in the order in which operations took effect: where a new row goes, how it is put there, and the
 // successful swap that a lost one looks for.
 use super::Entry;
+use super::Sought;
 use super::write_row;
 ghost use Prim.Native.Nat.{_+_, _*_, _≤_};
 ghost use mathlib.Core.Path.{_≡_};
 ghost use lib.ListN.{length};
-ghost use Rattle.runfile.specs.Format.{RowSize};
 ghost use Rattle.runfile.specs.Operations.{rowsFrom};
 ghost use Rattle.rows.specs.Log.{isSwap};
 ghost use Rattle.rows.specs.Buffers.{entryAt, shifted};
-ghost use Rattle.rows.specs.Promises.{Places, FirstSwapped, Inserted};
+ghost use Rattle.rows.specs.Promises.{Places, Searched, FirstSwapped, Inserted};
 
 // The place of a new row among the first `rows` rows: one past the last of equal or smaller position, 0 if
 // there is none. Nearly every row belongs at the end, so the search begins with the last row; the rows behind
@@ -55,7 +55,7 @@ pub fn insert_row(log: &mut [u32], rows: usize, entry: Entry)
     write_row(log, at, entry);
 }
 
-// Whether row i of the log is a successful swap on a word after a position. The table is the part of the file
+// Whether row i of the log is such a swap as is sought. The table is the part of the file
 // with its rows, so many bytes from one to the next; a row number past it names no row.
 fn is_swap_after(
     table: &[u8],
@@ -63,47 +63,43 @@ fn is_swap_after(
     operations: usize,
     log: &[u32],
     i: usize,
-    after: u32,
-    word: u8,
+    sought: Sought,
 ) -> bool
-    requires { ⌜ RowSize stride × (operations * stride ≤ length (now table)) × (i * 5 + 5 ≤ length (now log)) ⌝ }
-    ensures { λ r. ⌜ r ≡ isSwap (rowsFrom stride (now (table .entry)) 0 operations) word after (entryAt (now (log .entry)) (i * 5)) ⌝ }
+    requires { ⌜ Searched stride (now table) operations (now log) (i + 1) ⌝ }
+    ensures { λ r. ⌜ r ≡ isSwap (rowsFrom stride (now (table .entry)) 0 operations) (sought .word) (sought .after) (entryAt (now (log .entry)) (i * 5)) ⌝ }
 {
     let at = i * 5;
     if log[at + 3] != 1 {
         return false;
     }
-    if log[at] <= after {
+    if log[at] <= sought.after {
         return false;
     }
     let row = log[at + 2] as usize;
     if row >= operations {
         return false;
     }
-    runfile::word_of_row(table, stride, row) == word
+    runfile::word_of_row(table, stride, row) == sought.word
 }
 
-// The position of the front-most of the first `rows` rows that is a successful swap on a word after a position;
-// `none` where there is none.
+// The position of the front-most of the first `rows` rows that is such a swap as is sought.
 pub fn first_swap_after(
     table: &[u8],
     stride: usize,
     operations: usize,
     log: &[u32],
     rows: usize,
-    after: u32,
-    word: u8,
-    none: u32,
+    sought: Sought,
 ) -> u32
-    requires { ⌜ RowSize stride × (operations * stride ≤ length (now table)) × (rows * 5 ≤ length (now log)) ⌝ }
-    ensures { λ r. ⌜ FirstSwapped stride (now (table .entry)) operations (now (log .entry)) rows after word none r ⌝ }
+    requires { ⌜ Searched stride (now table) operations (now log) rows ⌝ }
+    ensures { λ r. ⌜ FirstSwapped stride (now (table .entry)) operations (now (log .entry)) rows sought r ⌝ }
 {
     let mut i = 0;
     while i < rows {
-        if is_swap_after(table, stride, operations, log, i, after, word) {
+        if is_swap_after(table, stride, operations, log, i, sought) {
             return log[i * 5];
         }
         i += 1;
     }
-    none
+    sought.none
 }

@@ -16,12 +16,13 @@ use Rattle.runfile.specs.Operations.{wordsFrom, wordsOf, rowsFrom, tableOf}
 use Rattle.runfile.specs.Lawful.{Lawful}
 use Rattle.rows.specs.Buffers.{infront}
 use Rattle.machine.specs.declared.Process.{Process}
-use Rattle.machine.specs.declared.Standing.{Standing}
+use Rattle.engine.specs.declared.Standing.{Standing}
+use Rattle.engine.specs.declared.Part.{Part}
 use Rattle.machine.specs.Records.{fresh, nobody}
 use Rattle.machine.specs.Laws.{Sane, sane-idle, fresh-at, closed-open, getD-either}
 use Rattle.machine.specs.Machine.{State, Effect, quiet, swaps, logs, replies, wordsAfter, turn, apply, applied, procAt, act, step, after, begin}
 use Rattle.run.specs.declared.Outcome.the-variants.{Ran}
-use Rattle.machine.specs.Part.{Holds, Runnable, Runs, stateLent}
+use Rattle.engine.specs.Part.{Holds, Runnable, Runs, stateLent}
 use Rattle.run.specs.Run.{endOf, roomOf, EndsAs}
 use Rattle.run.specs.Parts.{part-all, table-part, lined-part, words-part}
 use Rattle.runfile.specs.OperationLaws.{length-wordsFrom}
@@ -55,6 +56,9 @@ replicate-take (suc P) (suc n) p h = ap (λ l. p ∷ l) (replicate-take P n p (o
 abbrev atFirst : Process → Standing
 atFirst p = record { processes = replicate 16 p; position = 0; log = 0; answers = 0 }
 
+abbrev wholeOf : (stride rows P : ℕ) → Process → Part
+wholeOf stride rows P p = record { stride = stride; rows = rows; present = P; from = atFirst p }
+
 lent-first : (P : ℕ) (words log answers : List ℕ) → P ≤ 16 → stateLent P (atFirst fresh) words log answers ≡ begin P words
 unfolding stateLent begin
 lent-first P words log answers h = ap (λ ps. record { words = words; processes = ps; log = []; answers = [] }) (replicate-take P 16 fresh h)
@@ -68,7 +72,7 @@ sane-first rows p = go (ltb p 16) refl
 
 module _ (h : Header) (f words log answers : List ℕ) (l : Lawful h f (roomOf words log answers)) where
   -- what the run asks
-  pub runnable : Runnable (strideOf h) (drop (rowsStart h) f) (h .rows) (scheduleIn h f) (wordsFrom (h .version) f (h .words)) log answers (h .processes) (atFirst fresh)
+  pub runnable : Runnable (wholeOf (strideOf h) (h .rows) (h .processes) fresh) (drop (rowsStart h) f) (scheduleIn h f) (wordsFrom (h .version) f (h .words)) log answers
   runnable =
       let exact = l .head .exact in
       let size = l .schedule in
@@ -100,11 +104,11 @@ module _ (h : Header) (f words log answers : List ℕ) (l : Lawful h f (roomOf w
   -- in the terms of the code: where the parts begin, how many rows and processes there are, the words as they were loaded, and a fresh record
   module _ (stride rows-at n schedule-at P : ℕ) (loaded′ : List ℕ) (p : Process) (ta : stride ≡ strideOf h) (ra : rows-at ≡ rowsStart h) (na : n ≡ h .rows) (sa : schedule-at ≡ scheduleStart h) (pa : P ≡ h .processes)
       (la : loaded′ ≡ wordsFrom (h .version) f (length words)) (size : length words ≡ h .words) (idle : p ≡ fresh) where
-    pub asked : Runnable stride (take (length f - rows-at) (drop rows-at f)) n (take (length f - schedule-at) (drop schedule-at f)) loaded′ log answers P (atFirst p)
+    pub asked : Runnable (wholeOf stride n P p) (take (length f - rows-at) (drop rows-at f)) (take (length f - schedule-at) (drop schedule-at f)) loaded′ log answers
     asked = rw (ta, ra, na, sa, pa, la, size, idle, part-all f (rowsStart h), part-all f (scheduleStart h)) runnable
 
     pub told : (r : Standing) (words′ log′ answers′ : List ℕ)
-        → Runs stride (take (length f - rows-at) (drop rows-at f)) n (take (length f - schedule-at) (drop schedule-at f)) loaded′ log answers P (atFirst p) r words′ log′ answers′
+        → Runs (wholeOf stride n P p) (take (length f - rows-at) (drop rows-at f)) (take (length f - schedule-at) (drop schedule-at f)) loaded′ log answers r words′ log′ answers′
         → Holds (endOf h f) log answers (r .log) (r .answers) words′ log′ answers′
     told r words′ log′ answers′ left =
         subst (λ s. Holds s log answers (r .log) (r .answers) words′ log′ answers′) the-end

@@ -1,8 +1,9 @@
 // The whole: a run file is refused, and nothing is touched, or it is run.
 mod load;
 
+use engine::Part;
+use engine::Standing;
 pub use load::load_words;
-use machine::Standing;
 use runfile::Checked;
 use runfile::Header;
 use runfile::Refusal;
@@ -11,7 +12,7 @@ ghost use Rattle.runfile.specs.Lawful.{Lawful};
 ghost use Rattle.runfile.specs.declared.Checked.the-variants as checked;
 ghost use mathlib.Core.Path.{_≡_};
 ghost use lib.ListN.{length};
-ghost use Rattle.machine.specs.Part.{Holds};
+ghost use Rattle.engine.specs.Part.{Holds};
 ghost use Rattle.run.specs.Run.{endOf, roomOf, Ends, EndsAs};
 
 // Refused, with the refusal and its place; or run, with the two row counts.
@@ -39,6 +40,7 @@ fn run_words(
     ensures { λ r. ⌜ Holds (endOf header (now (file .entry))) (now (log .entry)) (now (answers .entry)) (r .log) (r .answers) (now (words .exit)) (now (log .exit)) (now (answers .exit)) ⌝ }
 {
     let rows = runfile::index16(header.rows);
+    let present = runfile::index8(header.processes);
     let stride = runfile::stride_of(header);
     let rows_at = runfile::rows_start(header);
     let schedule_at = runfile::schedule_start(header);
@@ -50,16 +52,19 @@ fn run_words(
         log: 0,
         answers: 0,
     };
-    let left = machine::run_bytes(
-        &file[rows_at..],
+    let part = Part {
         stride,
         rows,
+        present,
+        from,
+    };
+    let left = engine::run_bytes(
+        &file[rows_at..],
         &file[schedule_at..],
         words,
         log,
         answers,
-        runfile::index8(header.processes),
-        from,
+        part,
     );
     Counts {
         log: left.log,

@@ -11,7 +11,7 @@ use Rattle.run.proofs.run_words.Statement.{statement}
 use Rattle.run.proofs.run_words.Tie as tie
 use Rattle.run.proofs.run_words.Reads as reads
 use Rattle.run.proofs.run_words.Lts as lts
-use Rattle.machine.proofs.run_bytes.Reads as run-bytes-reads
+use Rattle.engine.proofs.run_bytes.Reads as run-bytes-reads
 use Rattle.machine.proofs.fresh.Reads as fresh-reads
 use Rattle.run.proofs.load.load_words.Reads as load-words-reads
 use Rattle.runfile.proofs.index16.Reads as index16-reads
@@ -19,41 +19,44 @@ use Rattle.runfile.proofs.index8.Reads as index8-reads
 use Rattle.runfile.proofs.rows_start.Reads as rows-start-reads
 use Rattle.runfile.proofs.schedule_start.Reads as schedule-start-reads
 
+-- the places on the way: where the words are loaded, and the function's start
+abbrev loaded : tie.After-fresh → tie.After-load-words
+loaded f = f .before .before .before
+
+abbrev schedule : tie.After-fresh → tie.After-schedule-start
+schedule f = loaded f .before .before
+
+abbrev begins : tie.After-schedule-start → tie.Start
+begins s = s .before .before .before .before .before .before .before .before .before
+
 load-words-requires : tie.Need-load-words-requires
-load-words-requires c κs = let s = c .before .before .before .before .before .before .before .before .before in
+load-words-requires c κs = let s = begins (c .before) in
     let a = s .args in
     let e = s .pre .1 .head .exact in
     subst (λ (n : ℕ). wordPlace (a .header .version) n ≤ length (now (a .file))) (sym (s .pre .0)) (omega arith)
 
 run-bytes-requires : tie.Need-run-bytes-requires
-run-bytes-requires c κs = let i8 = c in
-    let fr = i8 .before .before .before .before .before .before in
-    let lw = fr .before .before .before in
-    let ss = lw .before .before in
-    let rs = ss .before in
-    let so = rs .before in
-    let ix = so .before in
-    let s = ix .before .before .before .before .before in
+run-bytes-requires c κs = let fr = c .before .before .before .before .before in
+    let ss = schedule fr in
+    let st = ss .before .before in
+    let s = begins ss in
     let a = s .args in
-    asked (a .header) (now (a .file)) (now (a .words)) (now (a .log)) (now (a .answers)) (s .pre .1) _ _ _ _ _ _ _ (so .stride-of .ensures .0) (rs .rows-start .ensures .0) (ix .index16 .ensures .0) (ss .schedule-start .ensures .0) (i8 .index8 .ensures .0) (lw .load-words .ensures) (s .pre .0) (fr .fresh .ensures)
+    asked (a .header) (now (a .file)) (now (a .words)) (now (a .log)) (now (a .answers)) (s .pre .1) _ _ _ _ _ _ _ (st .stride-of .ensures .0) (ss .before .rows-start .ensures .0) (st .before .before .index16 .ensures .0) (ss .schedule-start .ensures .0) (st .before .index8 .ensures .0) (loaded fr .load-words .ensures) (s .pre .0) (fr .fresh .ensures)
 
 returns : tie.Need-returns
 returns c = let rn = c .before .before .before .before .before .before in
-    let i8 = rn .before in
-    let fr = i8 .before .before .before .before .before .before in
-    let lw = fr .before .before .before in
-    let ss = lw .before .before in
-    let rs = ss .before in
-    let so = rs .before in
-    let ix = so .before in
-    let s = ix .before .before .before .before .before in
+    let fr = rn .before .before .before .before .before .before in
+    let ss = schedule fr in
+    let st = ss .before .before in
+    let s = begins ss in
     let a = s .args in
-    told (a .header) (now (a .file)) (now (a .words)) (now (a .log)) (now (a .answers)) (s .pre .1) _ _ _ _ _ _ _ (so .stride-of .ensures .0) (rs .rows-start .ensures .0) (ix .index16 .ensures .0) (ss .schedule-start .ensures .0) (i8 .index8 .ensures .0) (lw .load-words .ensures) (s .pre .0) (fr .fresh .ensures) _ _ _ _ (rn .run-bytes .ensures)
+    told (a .header) (now (a .file)) (now (a .words)) (now (a .log)) (now (a .answers)) (s .pre .1) _ _ _ _ _ _ _ (st .stride-of .ensures .0) (ss .before .rows-start .ensures .0) (st .before .before .index16 .ensures .0) (ss .schedule-start .ensures .0) (st .before .index8 .ensures .0) (loaded fr .load-words .ensures) (s .pre .0) (fr .fresh .ensures) _ _ _ _ (rn .run-bytes .ensures)
 
 pub run-words-spec : {M : Type 1} → statement M
 run-words-spec =
     tie.close
     (tie.spec
+    (λ c κs. search needs)
     (λ c κs. search needs)
     (λ c κs. search needs)
     (λ c κs. search needs)
@@ -66,7 +69,6 @@ run-words-spec =
     (λ c. search needs)
     (λ c. search needs)
     (λ c. search needs)
-    (λ c κs. search needs)
     run-bytes-requires
     (λ c. search needs)
     (λ c. search needs)

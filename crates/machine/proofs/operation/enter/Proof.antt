@@ -8,18 +8,18 @@ use Rattle.machine.proofs.operation.enter.Tie as tie
 
 returns : tie.Need-returns
 returns c = let s = c .before .before .before .before in
-    enter-none _ _ _ _ _ _ (s .pre .0 .rows) (c .enum-told .given .1)
+    enter-none _ _ _ _ _ (s .pre .looked .rows) (c .enum-told .given .1)
 
 returns-2 : tie.Need-returns-2
 returns-2 c = let a = c .before .before .before in
-    enter-true _ _ _ _ _ _ (a .before .before .before .before .pre .0 .rows) (a .answer .given .1 ∙ ap Is (c .enum-told2 .given .1))
+    enter-true _ _ _ _ _ (a .before .before .before .before .pre .looked .rows) (a .answer .given .1 ∙ ap Is (c .enum-told2 .given .1))
 
 returns-3 : tie.Need-returns-3
 returns-3 c = let ir = c .before .before in
     let eo = ir .before .before in
     let tl = eo .before .before in
     let a = tl .before .before .before in
-    enter-value _ _ _ _ _ _ _ (a .answer .given .1) _ (tl .enum-told3 .given .1) _ _ (eo .entry-of .ensures) (ir .insert-row .ensures)
+    enter-value _ _ _ _ _ _ (a .answer .given .1) _ (tl .enum-told3 .given .1) _ _ (eo .entry-of .ensures) (ir .insert-row .ensures)
 
 returns-4 : tie.Need-returns-4
 returns-4 c = let ir = c .before .before in
@@ -27,7 +27,7 @@ returns-4 c = let ir = c .before .before in
     let fa = eo .before in
     let tl = fa .before .before in
     let a = tl .before .before .before in
-    enter-false _ _ _ _ _ _ _ (a .answer .given .1) (tl .enum-told4 .given .1) _ _ _ (fa .false-at .ensures) (eo .entry-of2 .ensures) (ir .insert-row2 .ensures)
+    enter-false _ _ _ _ _ _ (a .answer .given .1) (tl .enum-told4 .given .1) _ _ _ (fa .false-at .ensures) (eo .entry-of2 .ensures) (ir .insert-row2 .ensures)
 
 pub enter-spec : {M : Type 1} → statement M
 enter-spec =

@@ -7,21 +7,22 @@ use lib.ListN.{drop}
 use borrow.Author.Needs.{needs}
 use Rattle.runfile.specs.declared.Row.{Row}
 use Rattle.runfile.specs.Operations.{rowsFrom}
+use Rattle.rows.specs.declared.Sought.{Sought}
 use Rattle.rows.specs.Log.{firstSwap}
 use Rattle.rows.specs.Buffers.{rowsOf}
 use Rattle.rows.proofs.First.{hit, miss, over}
 use Rattle.rows.proofs.log.first_swap_after.Statement.{statement}
 use Rattle.rows.proofs.log.first_swap_after.Tie as tie
 
-record Searching (operations : List Row) (log : List ℕ) (rows after word none i : ℕ) : Type 0 where
+record Searching (operations : List Row) (log : List ℕ) (rows : ℕ) (sought : Sought) (i : ℕ) : Type 0 where
   within : i ≤ rows
-  kept : firstSwap operations word after none (drop i (rowsOf rows log)) ≡ firstSwap operations word after none (rowsOf rows log)
+  kept : firstSwap operations (sought .word) (sought .after) (sought .none) (drop i (rowsOf rows log)) ≡ firstSwap operations (sought .word) (sought .after) (sought .none) (rowsOf rows log)
 
 abbrev Inv-loop : tie.InvT-loop
-Inv-loop table stride operations log rows after word none i₀ i = Searching (rowsFrom stride table 0 operations) log rows after word none i
+Inv-loop table stride operations log rows sought i₀ i = Searching (rowsFrom stride table 0 operations) log rows sought i
 
 abbrev μ-loop : tie.MeasureT-loop
-μ-loop table stride operations log rows after word none i₀ i = rows - i
+μ-loop table stride operations log rows sought i₀ i = rows - i
 
 loop-holds : tie.Need-loop-holds Inv-loop μ-loop
 loop-holds c = record { within = search needs; kept = refl }

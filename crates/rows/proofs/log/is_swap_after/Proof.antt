@@ -44,21 +44,21 @@ returns : tie.Need-returns
 returns c = lost _ _ _ _ _ _ _ (c .if1 .taken)
 
 returns-2 : tie.Need-returns-2
-returns-2 c = early _ _ _ _ _ _ _ (c .before .before .if1 .left) (omega arith)
+returns-2 c = early _ _ _ _ _ _ _ (c .before .before .before .if1 .left) (omega arith)
 
 cast-row : tie.Need-cast-row
-cast-row c = omega (arith, c .shared-slice-known5 .given (c .before .before .before .before .before .before .before .args .i * 5 + 2))
+cast-row c = omega (arith, c .shared-slice-known5 .given (c .before .before .before .before .before .before .before .before .args .i * 5 + 2))
 
 returns-3 : tie.Need-returns-3
-returns-3 c = past _ _ _ _ _ _ _ (c .before .before .before .before .if1 .left) (omega (arith, c .before .before .if2 .left)) (c .if3 .taken)
+returns-3 c = past _ _ _ _ _ _ _ (c .before .before .before .before .before .if1 .left) (omega (arith, c .before .before .if2 .left)) (c .if3 .taken)
 
 word-of-row-requires : tie.Need-word-of-row-requires
 word-of-row-requires c κs =
-    let pre = c .before .before .before .before .before .before .before .before .pre in
-    has-row _ _ _ _ (pre .0) (pre .1) (c .if3 .left)
+    let pre = c .before .before .before .before .before .before .before .before .before .pre in
+    has-row _ _ _ _ (pre .size) (pre .whole) (c .if3 .left)
 
 returns-4 : tie.Need-returns-4
-returns-4 c = let d = c .before in there _ _ _ _ _ _ _ (d .before .before .before .before .if1 .left) (omega (arith, d .before .before .if2 .left)) (d .if3 .left) _ (c .word-of-row .ensures)
+returns-4 c = let d = c .before .before in there _ _ _ _ _ _ _ (d .before .before .before .before .before .if1 .left) (omega (arith, d .before .before .if2 .left)) (d .if3 .left) _ (c .before .word-of-row .ensures)
 
 pub is-swap-after-spec : {M : Type 1} → statement M
 is-swap-after-spec =

@@ -11,56 +11,56 @@ use denote.Ref.{now}
 use mathlib.Core.Logic.{⊎-elim}
 use types.Run.{OneOf}
 use denote.Enum.Declared.{tagOf}
 use Rattle.machine.proofs.Status.{the-type}
 use Rattle.runfile.specs.declared.Row.{Row}
 use Rattle.runfile.specs.Actions.{named}
 use Rattle.runfile.specs.Layout.{rowOfTable}
 use Rattle.runfile.specs.Operations.{rowsFrom, rowNumbered, first, count}
 use Rattle.runfile.specs.OperationLaws.{length-rowsFrom}
 use Rattle.runfile.specs.Shares.{Counted, has-row, last-fits, first-at, sum-fits}
 use Rattle.machine.specs.declared.Process.{Process}
-use Rattle.machine.specs.declared.Standing.{Standing}
+use Rattle.engine.specs.declared.Standing.{Standing}
 use Rattle.machine.specs.declared.Maybe.the-variants.{Is}
 use Rattle.machine.specs.declared.Answer.the-variants.{True}
 use Rattle.machine.specs.declared.Status.{Status}
 use Rattle.machine.specs.declared.Status.the-variants.{Down, Idle, N2, N3, Busy}
 use Rattle.machine.specs.Records.{nobody, rowOpen, waked, WorkOpen, Announcing}
 use Rattle.machine.specs.Steps.{entry}
 use Rattle.machine.specs.Laws.{Sane}
 use Rattle.machine.specs.Reach.{Reach, row-is}
-use Rattle.machine.proofs.Loop.{mapped, Holding, Meets, hold-start, hold-end, sane-lent, never, hold-all, sane-mine, hold-crash, hold-wake-idle, hold-wake-busy, hold-awake, hold-still, hold-record, hold-won, hold-answer, hold-entered, at-down, at-idle, at-done, at-N2, at-N3, at-A1, at-A2, at-A3, at-won, at-lost, at-A5, at-V1, at-V2, at-V3, at-V4, at-reply}
+use Rattle.engine.proofs.Loop.{mapped, Holding, Meets, hold-start, hold-end, sane-lent, last-of, hold-all, sane-mine, hold-crash, hold-wake-idle, hold-wake-busy, hold-awake, hold-still, hold-record, hold-won, hold-answer, hold-entered, at-down, at-idle, at-done, at-N2, at-N3, at-A1, at-A2, at-A3, at-won, at-lost, at-A5, at-V1, at-V2, at-V3, at-V4, at-reply}
 use borrow.Author.Needs.{needs}
-use Rattle.machine.proofs.engine.run_bytes.Statement.{statement}
-use Rattle.machine.proofs.engine.run_bytes.Tie as tie
+use Rattle.engine.proofs.run_bytes.Statement.{statement}
+use Rattle.engine.proofs.run_bytes.Tie as tie
 
 abbrev Inv-loop : tie.InvT-loop
-Inv-loop table stride n schedule words₀ log₀ answers₀ present counts firsts from-position processes₀ log-rows₀ answer-rows₀ i₀ words log answers processes log-rows answer-rows i =
+Inv-loop table schedule words₀ log₀ answers₀ stride n present counts firsts from-position processes₀ log-rows₀ answer-rows₀ i₀ words log answers processes log-rows answer-rows i =
     Holding (rowsFrom stride table 0 n) present (record { processes = processes₀; position = from-position; log = log-rows₀; answers = answer-rows₀ }) schedule words₀ log₀ answers₀ i words log answers processes log-rows answer-rows
 
 abbrev μ-loop : tie.MeasureT-loop
-μ-loop table stride n schedule words₀ log₀ answers₀ present counts firsts from-position processes₀ log-rows₀ answer-rows₀ i₀ words log answers processes log-rows answer-rows i = length schedule - i
+μ-loop table schedule words₀ log₀ answers₀ stride n present counts firsts from-position processes₀ log-rows₀ answer-rows₀ i₀ words log answers processes log-rows answer-rows i = length schedule - i
 
 -- the places: the loop's head, the function's start
 abbrev head : tie.After-index8 Inv-loop μ-loop → tie.At-loop Inv-loop μ-loop
 head x = x .before .before .before
 
 abbrev begins : tie.At-loop Inv-loop μ-loop → tie.Start Inv-loop μ-loop
-begins l = l .before .before .before .before .before .before .before .before .before
+begins l = l .before .before .before .before .before .before .before .before .before .before
 
 abbrev table : tie.At-loop Inv-loop μ-loop → List ℕ
 table l = now (begins l .args .table)
 
 abbrev stride : tie.At-loop Inv-loop μ-loop → ℕ
-stride l = begins l .args .stride
+stride l = begins l .args .part .stride
 
 abbrev n : tie.At-loop Inv-loop μ-loop → ℕ
-n l = begins l .args .n
+n l = begins l .args .part .rows
 
 abbrev rows : tie.At-loop Inv-loop μ-loop → List Row
 rows l = rowsFrom (stride l) (table l) 0 (n l)
 
 abbrev from : tie.At-loop Inv-loop μ-loop → Standing
-from l = begins l .args .from
+from l = begins l .args .part .from
 
 abbrev byte : tie.At-loop Inv-loop μ-loop → ℕ
 byte l = getD (now (begins l .args .schedule)) (l .loop .i) 0
@@ -100,7 +100,7 @@ answers-room x =
     let e = begins l .pre .answers-room in
     omega arith
 
-meets : (x : tie.After-index8 Inv-loop μ-loop) → (let l = head x in Meets (begins l .args .present) (now (begins l .args .schedule)) (l .loop .i) (l .loop .log) (l .loop .answers) (l .loop .log-rows) (l .loop .answer-rows))
+meets : (x : tie.After-index8 Inv-loop μ-loop) → (let l = head x in Meets (begins l .args .part .present) (now (begins l .args .schedule)) (l .loop .i) (l .loop .log) (l .loop .answers) (l .loop .log-rows) (l .loop .answer-rows))
 meets x = record {
   inside = inside x;
   log-room = let a = log-room x in omega arith;
@@ -110,7 +110,7 @@ meets x = record {
 }
 
 -- sixteen records
-sixteen : (st : tie.Start Inv-loop μ-loop) → length (st .args .from .processes) ≡ 16
+sixteen : (st : tie.Start Inv-loop μ-loop) → length (st .args .part .from .processes) ≡ 16
 sixteen st = search (needs, mapped)
 
 -- positions are small
@@ -119,12 +119,12 @@ position-fits x = record { fits = let a = inside x in let b = begins (head x) .p
 
 rows-fit : (x : tie.After-index8 Inv-loop μ-loop) → Fits w64 (head x .loop .log-rows + 1)
 rows-fit x =
-    let k = head x .before .before .before .before .before .slice-known2 .given in
+    let k = head x .before .before .before .before .before .before .slice-known2 .given in
     record { fits = let a = log-room x in let b = head x .loop .inv .log-same in omega arith }
 
 answers-fit : (x : tie.After-index8 Inv-loop μ-loop) → Fits w64 (head x .loop .answer-rows + 1)
 answers-fit x =
-    let k = head x .before .before .before .before .slice-known3 .given in
+    let k = head x .before .before .before .before .before .slice-known3 .given in
     record { fits = let a = answers-room x in let b = head x .loop .inv .answers-same in omega arith }
 
 -- the two tables
@@ -139,22 +139,22 @@ firsts-are x =
     ap (λ (j : ℕ). getD (head x .before .before .firsts-of .result) j 0) (here x)
     ∙ first-at (rows (head x)) _ _ (counted (head x)) (head x .before .before .firsts-of .ensures) (me (head x)) (omega arith)
 
--- a byte below 16 is a step
-is : (s : tie.Then1 Inv-loop μ-loop) → byte (head (s .before)) < 16
-is s = s .if1 .taken
+-- high four bits of 0 are a step
+low : (s : tie.At-match-keys1 Inv-loop μ-loop) → byte (head (s .before)) / 16 < 3
+low s = let e : byte (head (s .before)) / 16 ≡ 0 = s .match .keys1 in omega arith
 
-low : (s : tie.Then1 Inv-loop μ-loop) → byte (head (s .before)) / 16 < 3
-low s = let l : byte (head (s .before)) < 16 = s .if1 .taken in omega arith
+is : (s : tie.At-match-keys1 Inv-loop μ-loop) → byte (head (s .before)) < 16
+is s = let e : byte (head (s .before)) / 16 ≡ 0 = s .match .keys1 in omega arith
 
-sane-of : (s : tie.Then1 Inv-loop μ-loop) → Sane (rows (head (s .before))) (me (head (s .before))) (mine (s .before))
+sane-of : (s : tie.At-match-keys1 Inv-loop μ-loop) → Sane (rows (head (s .before))) (me (head (s .before))) (mine (s .before))
 sane-of s =
     let x = s .before in
     let l = head x in
     let b = begins l in
-    sane-mine (head x .loop .inv) (meets x) (low s) (here x) (sane-lent (rows l) (b .args .present) (b .args .from) (now (b .args .schedule)) (now (b .args .words)) (now (b .args .log)) (now (b .args .answers)) (sixteen b) (b .pre .present) (b .pre .sane))
+    sane-mine (head x .loop .inv) (meets x) (low s) (here x) (sane-lent (rows l) (b .args .part .present) (b .args .part .from) (now (b .args .schedule)) (now (b .args .words)) (now (b .args .log)) (now (b .args .answers)) (sixteen b) (b .pre .present) (b .pre .sane))
 
 -- in the midst of work a row is open, and it is in the file: its number, the row as it is read from the table, and that both are in reach
-abbrev step-at : tie.After-stage-number Inv-loop μ-loop → tie.Then1 Inv-loop μ-loop
+abbrev step-at : tie.After-stage-number Inv-loop μ-loop → tie.At-match-keys1 Inv-loop μ-loop
 step-at b = b .before .before .before .before .before .before .before .before
 
 abbrev turn-at : tie.After-stage-number Inv-loop μ-loop → tie.After-index8 Inv-loop μ-loop
@@ -205,30 +205,28 @@ awake r N2 h = refl
 awake r N3 h = refl
 awake r (Busy stage seen readAt triedAt answer) h = refl
 
--- a byte that is no step, and none of the others
-high : (c : tie.At-match3-rest Inv-loop μ-loop) → 3 ≤ byte (head (c .before .before)) / 16
-high c =
-    let b = byte (head (c .before .before)) in
-    let l : 16 ≤ b = c .before .if1 .left in
-    let r = c .match3 .rest in
-    let x = r .0 .0 .1 in
-    let y = r .0 .1 in
-    omega arith
-
-nothing : {A : Type 0} → (c : tie.At-match3-rest Inv-loop μ-loop) → A
-nothing c = let x = c .before .before in never (head x .loop .inv) (meets x) (high c) (c .match3 .rest .1)
+-- high four bits that are none of 0, 1 and 2 are 15: no other byte is lawful
+all-of : (c : tie.At-match-rest Inv-loop μ-loop) → byte (head (c .before)) / 16 ≡ 15
+all-of c =
+    let x = c .before in
+    let b = byte (head x) in
+    let r = c .match .rest in
+    let u = r .0 .0 .1 in
+    let v = r .0 .1 in
+    let w = r .1 in
+    last-of (head x .loop .inv) (meets x) (omega arith)
 
 counts-of-requires : tie.Need-counts-of-requires Inv-loop μ-loop
 counts-of-requires c κs = search needs
 
 firsts-of-requires : tie.Need-firsts-of-requires Inv-loop μ-loop
-firsts-of-requires c κs = let s = c .before .before .before .before .before .before in
-    sum-fits (s .args .stride) (now (s .args .table)) (s .args .n) (c .counts-of .result) (s .pre .lined .few) (c .counts-of .ensures)
+firsts-of-requires c κs = let s = c .before .before .before .before .before .before .before in
+    sum-fits (s .args .part .stride) (now (s .args .table)) (s .args .part .rows) (c .counts-of .result) (s .pre .lined .few) (c .counts-of .ensures)
 
 loop-holds : tie.Need-loop-holds Inv-loop μ-loop
-loop-holds c = let s = c .before .before .before .before .before .before .before .before in
+loop-holds c = let s = c .before .before .before .before .before .before .before .before .before in
     let a = s .args in
-    hold-start (rowsFrom (a .stride) (now (a .table)) 0 (a .n)) (a .present) (a .from) (now (a .schedule)) (now (a .words)) (now (a .log)) (now (a .answers)) (sixteen s) (let r = s .pre .log-room in omega arith) (let r = s .pre .answers-room in omega arith)
+    hold-start (rowsFrom (a .part .stride) (now (a .table)) 0 (a .part .rows)) (a .part .present) (a .part .from) (now (a .schedule)) (now (a .words)) (now (a .log)) (now (a .answers)) (sixteen s) (let r = s .pre .log-room in omega arith) (let r = s .pre .answers-room in omega arith)
 
 shared-slice-read-byte : tie.Need-shared-slice-read-byte Inv-loop μ-loop
 shared-slice-read-byte c = search needs
@@ -271,11 +269,11 @@ mul-process c = search needs
 array-copy-out-process : tie.Need-array-copy-out-process Inv-loop μ-loop
 array-copy-out-process c = search needs
 
-mul-if2 : tie.Need-mul-if2 Inv-loop μ-loop
-mul-if2 c = search needs
+mul-if1 : tie.Need-mul-if1 Inv-loop μ-loop
+mul-if1 c = search needs
 
-array-read-if2 : tie.Need-array-read-if2 Inv-loop μ-loop
-array-read-if2 c = search needs
+array-read-if1 : tie.Need-array-read-if1 Inv-loop μ-loop
+array-read-if1 c = search needs
 
 mul-processes : tie.Need-mul-processes Inv-loop μ-loop
 mul-processes c = search needs
@@ -289,7 +287,7 @@ loop-less-2 c = search needs
 loop-again-2 : tie.Need-loop-again-2 Inv-loop μ-loop
 loop-again-2 c = let s = c .before .before .before .before .before .before in
     let x = s .before in
-    hold-record (head x .loop .inv) (meets x) (low s) (here x) (is s) _ (at-idle (head x .loop .inv) (meets x) (low s) (here x) (is s) (c .before .before .before .enum-told2 .given .1) _ (counts-are x) (c .if2 .taken))
+    hold-record (head x .loop .inv) (meets x) (low s) (here x) (is s) _ (at-idle (head x .loop .inv) (meets x) (low s) (here x) (is s) (c .before .before .before .enum-told2 .given .1) _ (counts-are x) (c .if1 .taken))
 
 loop-less-3 : tie.Need-loop-less-3 Inv-loop μ-loop
 loop-less-3 c = search needs
@@ -297,7 +295,7 @@ loop-less-3 c = search needs
 loop-again-3 : tie.Need-loop-again-3 Inv-loop μ-loop
 loop-again-3 c = let s = c .before .before .before .before .before .before in
     let x = s .before in
-    hold-still (head x .loop .inv) (meets x) (low s) (here x) (is s) (at-done (head x .loop .inv) (meets x) (low s) (here x) (is s) (c .before .before .before .enum-told2 .given .1) _ (counts-are x) (c .if2 .left))
+    hold-still (head x .loop .inv) (meets x) (low s) (here x) (is s) (at-done (head x .loop .inv) (meets x) (low s) (here x) (is s) (c .before .before .before .enum-told2 .given .1) _ (counts-are x) (c .if1 .left))
 
 enum-told-3 : tie.Need-enum-told-3 Inv-loop μ-loop
 enum-told-3 c = search needs
@@ -401,7 +399,7 @@ loop-again-6 : tie.Need-loop-again-6 Inv-loop μ-loop
 loop-again-6 c = let b = c .before .before .before .before .before in
     let s = step-at b in
     let x = s .before in
-    hold-record (head x .loop .inv) (meets x) (low s) (here x) (is s) _ (at-A1 (head x .loop .inv) (meets x) (low s) (here x) (is s) (b .before .before .before .before .before .status .given .1) (busy-is b) _ (b .stage-number .ensures) (c .before .before .before .before .match2 .keys1) _ _ _ (c .before .before .before .row-at .ensures ∙ row-found b) (word-is b _ (c .before .word-now .ensures)) (c .after-read .ensures))
+    hold-record (head x .loop .inv) (meets x) (low s) (here x) (is s) _ (at-A1 (head x .loop .inv) (meets x) (low s) (here x) (is s) (b .before .before .before .before .before .status .given .1) (busy-is b) _ (b .stage-number .ensures) (c .before .before .before .before .match3 .keys1) _ _ _ (c .before .before .before .row-at .ensures ∙ row-found b) (word-is b _ (c .before .word-now .ensures)) (c .after-read .ensures))
 
 busy-requires : tie.Need-busy-requires Inv-loop μ-loop
 busy-requires c κs = search needs
@@ -425,7 +423,7 @@ loop-again-7 : tie.Need-loop-again-7 Inv-loop μ-loop
 loop-again-7 c = let b = c .before .before .before in
     let s = step-at b in
     let x = s .before in
-    hold-record (head x .loop .inv) (meets x) (low s) (here x) (is s) _ (at-A2 (head x .loop .inv) (meets x) (low s) (here x) (is s) (b .before .before .before .before .before .status .given .1) (busy-is b) _ (b .stage-number .ensures) (c .before .before .match2 .keys2) _ _ (c .bit-of .ensures) (c .before .busy .ensures))
+    hold-record (head x .loop .inv) (meets x) (low s) (here x) (is s) _ (at-A2 (head x .loop .inv) (meets x) (low s) (here x) (is s) (b .before .before .before .before .before .status .given .1) (busy-is b) _ (b .stage-number .ensures) (c .before .before .match3 .keys2) _ _ (c .bit-of .ensures) (c .before .busy .ensures))
 
 busy-requires-2 : tie.Need-busy-requires-2 Inv-loop μ-loop
 busy-requires-2 c κs = search needs
@@ -443,7 +441,7 @@ loop-again-8 : tie.Need-loop-again-8 Inv-loop μ-loop
 loop-again-8 c = let b = c .before .before in
     let s = step-at b in
     let x = s .before in
-    hold-record (head x .loop .inv) (meets x) (low s) (here x) (is s) _ (at-A3 (head x .loop .inv) (meets x) (low s) (here x) (is s) (b .before .before .before .before .before .status .given .1) (busy-is b) _ (b .stage-number .ensures) (c .before .match2 .keys3) _ (c .busy2 .ensures))
+    hold-record (head x .loop .inv) (meets x) (low s) (here x) (is s) _ (at-A3 (head x .loop .inv) (meets x) (low s) (here x) (is s) (b .before .before .before .before .before .status .given .1) (busy-is b) _ (b .stage-number .ensures) (c .before .match3 .keys3) _ (c .busy2 .ensures))
 
 word-now-requires-2 : tie.Need-word-now-requires-2 Inv-loop μ-loop
 word-now-requires-2 c κs = reach (c .before .before)
@@ -498,7 +496,7 @@ loop-again-9 c = let ir = c .before .before in
     let x = s .before in
     let l = head x in
     hold-won (head x .loop .inv) (meets x) (low s) (here x) (is s) _ _ (eo .entry-of .result) _ _
-    (at-won (head x .loop .inv) (meets x) (low s) (here x) (is s) (b .before .before .before .before .before .status .given .1) (busy-is b) _ (b .stage-number .ensures) (wn .before .before .match2 .keys4) _ (word-is b _ (wn .word-now2 .ensures)) (bu .before .if3 .taken) _ (bu .busy3 .ensures) _ (ra .row-at2 .ensures ∙ row-found b) _ (sw .swapped-of .ensures))
+    (at-won (head x .loop .inv) (meets x) (low s) (here x) (is s) (b .before .before .before .before .before .status .given .1) (busy-is b) _ (b .stage-number .ensures) (wn .before .before .match3 .keys4) _ (word-is b _ (wn .word-now2 .ensures)) (bu .before .if2 .taken) _ (bu .busy3 .ensures) _ (ra .row-at2 .ensures ∙ row-found b) _ (sw .swapped-of .ensures))
     (eo .entry-of .ensures ∙ ap (λ (k : ℕ). entry (from l .position + l .loop .i) (me l) k (Is True)) (row-no b))
     (pw .store-word .ensures ∙ ap (λ (row : Row). set (l .loop .words) (row .word) (sw .swapped-of .result)) (row-found b))
     (ir .insert-row .kept .0)
@@ -520,7 +518,7 @@ loop-again-10 : tie.Need-loop-again-10 Inv-loop μ-loop
 loop-again-10 c = let b = c .before .before .before .before .before in
     let s = step-at b in
     let x = s .before in
-    hold-record (head x .loop .inv) (meets x) (low s) (here x) (is s) _ (at-lost (head x .loop .inv) (meets x) (low s) (here x) (is s) (b .before .before .before .before .before .status .given .1) (busy-is b) _ (b .stage-number .ensures) (c .before .before .before .before .match2 .keys4) _ (word-is b _ (c .before .before .word-now2 .ensures)) (c .before .if3 .left) _ (c .busy4 .ensures))
+    hold-record (head x .loop .inv) (meets x) (low s) (here x) (is s) _ (at-lost (head x .loop .inv) (meets x) (low s) (here x) (is s) (b .before .before .before .before .before .status .given .1) (busy-is b) _ (b .stage-number .ensures) (c .before .before .before .before .match3 .keys4) _ (word-is b _ (c .before .before .word-now2 .ensures)) (c .before .if2 .left) _ (c .busy4 .ensures))
 
 busy-requires-5 : tie.Need-busy-requires-5 Inv-loop μ-loop
 busy-requires-5 c κs = search needs
@@ -536,7 +534,7 @@ enter-requires c κs = let b = c .before .before .before in
     let x = turn-at b in
     let l = head x in
     let r = log-room x in
-    (record { size = begins l .pre .lined .size; whole = begins l .pre .lined .whole; row = subst (λ (k : ℕ). k < n l) (sym (row-no b)) (open-in b); rows = omega arith }, r)
+    record { looked = record { size = begins l .pre .lined .size; whole = begins l .pre .lined .whole; row = subst (λ (k : ℕ). k < n l) (sym (row-no b)) (open-in b); rows = omega arith }; room = r }
 
 loop-less-11 : tie.Need-loop-less-11 Inv-loop μ-loop
 loop-less-11 c = search needs
@@ -547,7 +545,7 @@ loop-again-11 c = let en = c .before .before in
     let b = bu .before .before in
     let s = step-at b in
     let x = s .before in
-    hold-entered (head x .loop .inv) (meets x) (low s) (here x) (is s) _ _ _ _ _ (at-A5 (head x .loop .inv) (meets x) (low s) (here x) (is s) (b .before .before .before .before .before .status .given .1) (busy-is b) _ (b .stage-number .ensures) (bu .before .match2 .keys5) _ (bu .busy5 .ensures)) (row-no b) (row-numbered b) (en .enter .kept .1 .1 .1 .0) (en .enter .ensures)
+    hold-entered (head x .loop .inv) (meets x) (low s) (here x) (is s) _ _ _ _ _ (at-A5 (head x .loop .inv) (meets x) (low s) (here x) (is s) (b .before .before .before .before .before .status .given .1) (busy-is b) _ (b .stage-number .ensures) (bu .before .match3 .keys5) _ (bu .busy5 .ensures)) refl (row-no b) (row-numbered b) (en .enter .kept .1 .1 .1 .0) (en .enter .ensures)
 
 recovered-of-requires : tie.Need-recovered-of-requires Inv-loop μ-loop
 recovered-of-requires c κs = search needs
@@ -568,7 +566,7 @@ loop-again-12 : tie.Need-loop-again-12 Inv-loop μ-loop
 loop-again-12 c = let b = c .before .before .before in
     let s = step-at b in
     let x = s .before in
-    hold-record (head x .loop .inv) (meets x) (low s) (here x) (is s) _ (at-V1 (head x .loop .inv) (meets x) (low s) (here x) (is s) (b .before .before .before .before .before .status .given .1) (busy-is b) _ (b .stage-number .ensures) (c .before .before .match2 .keys6) _ (c .before .recovered-of .ensures) _ (c .busy6 .ensures))
+    hold-record (head x .loop .inv) (meets x) (low s) (here x) (is s) _ (at-V1 (head x .loop .inv) (meets x) (low s) (here x) (is s) (b .before .before .before .before .before .status .given .1) (busy-is b) _ (b .stage-number .ensures) (c .before .before .match3 .keys6) _ (c .before .recovered-of .ensures) _ (c .busy6 .ensures))
 
 by-checkpoint-requires : tie.Need-by-checkpoint-requires Inv-loop μ-loop
 by-checkpoint-requires c κs = search needs
@@ -589,7 +587,7 @@ loop-again-13 : tie.Need-loop-again-13 Inv-loop μ-loop
 loop-again-13 c = let b = c .before .before .before in
     let s = step-at b in
     let x = s .before in
-    hold-record (head x .loop .inv) (meets x) (low s) (here x) (is s) _ (at-V2 (head x .loop .inv) (meets x) (low s) (here x) (is s) (b .before .before .before .before .before .status .given .1) (busy-is b) _ (b .stage-number .ensures) (c .before .before .match2 .keys7) _ (c .before .by-checkpoint .ensures) _ (c .busy7 .ensures))
+    hold-record (head x .loop .inv) (meets x) (low s) (here x) (is s) _ (at-V2 (head x .loop .inv) (meets x) (low s) (here x) (is s) (b .before .before .before .before .before .status .given .1) (busy-is b) _ (b .stage-number .ensures) (c .before .before .match3 .keys7) _ (c .before .by-checkpoint .ensures) _ (c .busy7 .ensures))
 
 word-now-requires-3 : tie.Need-word-now-requires-3 Inv-loop μ-loop
 word-now-requires-3 c κs = reach (c .before .before)
@@ -613,7 +611,7 @@ loop-again-14 : tie.Need-loop-again-14 Inv-loop μ-loop
 loop-again-14 c = let b = c .before .before .before .before .before in
     let s = step-at b in
     let x = s .before in
-    hold-record (head x .loop .inv) (meets x) (low s) (here x) (is s) _ (at-V3 (head x .loop .inv) (meets x) (low s) (here x) (is s) (b .before .before .before .before .before .status .given .1) (busy-is b) _ (b .stage-number .ensures) (c .before .before .before .before .match2 .keys8) _ (word-is b _ (c .before .before .word-now3 .ensures)) _ (c .before .by-bit .ensures) _ (c .busy8 .ensures))
+    hold-record (head x .loop .inv) (meets x) (low s) (here x) (is s) _ (at-V3 (head x .loop .inv) (meets x) (low s) (here x) (is s) (b .before .before .before .before .before .status .given .1) (busy-is b) _ (b .stage-number .ensures) (c .before .before .before .before .match3 .keys8) _ (word-is b _ (c .before .before .word-now3 .ensures)) _ (c .before .by-bit .ensures) _ (c .busy8 .ensures))
 
 busy-requires-9 : tie.Need-busy-requires-9 Inv-loop μ-loop
 busy-requires-9 c κs = search needs
@@ -631,7 +629,7 @@ loop-again-15 : tie.Need-loop-again-15 Inv-loop μ-loop
 loop-again-15 c = let b = c .before .before in
     let s = step-at b in
     let x = s .before in
-    hold-record (head x .loop .inv) (meets x) (low s) (here x) (is s) _ (at-V4 (head x .loop .inv) (meets x) (low s) (here x) (is s) (b .before .before .before .before .before .status .given .1) (busy-is b) _ (b .stage-number .ensures) (c .before .match2 .keys9) _ (c .busy9 .ensures))
+    hold-record (head x .loop .inv) (meets x) (low s) (here x) (is s) _ (at-V4 (head x .loop .inv) (meets x) (low s) (here x) (is s) (b .before .before .before .before .before .status .given .1) (busy-is b) _ (b .stage-number .ensures) (c .before .match3 .keys9) _ (c .busy9 .ensures))
 
 reply-of-requires : tie.Need-reply-of-requires Inv-loop μ-loop
 reply-of-requires c κs = search needs
@@ -667,7 +665,7 @@ loop-again-16 c = let aa = c .before .before in
     let x = s .before in
     let l = head x in
     hold-answer (head x .loop .inv) (meets x) (low s) (here x) (is s) _ _ (eo .entry-of2 .result) _
-    (at-reply (head x .loop .inv) (meets x) (low s) (here x) (is s) (b .before .before .before .before .before .status .given .1) (busy-is b) _ (b .stage-number .ensures) (rs .match2 .rest .0 .0 .0 .0 .0 .0 .0 .0 .1) (rs .match2 .rest .0 .0 .0 .0 .0 .0 .0 .1) (rs .match2 .rest .0 .0 .0 .0 .0 .0 .1) (rs .match2 .rest .0 .0 .0 .0 .0 .1) (rs .match2 .rest .0 .0 .0 .0 .1) (rs .match2 .rest .0 .0 .0 .1) (rs .match2 .rest .0 .0 .1) (rs .match2 .rest .0 .1) (rs .match2 .rest .1) _ (rp .reply-of .ensures))
+    (at-reply (head x .loop .inv) (meets x) (low s) (here x) (is s) (b .before .before .before .before .before .status .given .1) (busy-is b) _ (b .stage-number .ensures) (rs .match3 .rest .0 .0 .0 .0 .0 .0 .0 .0 .1) (rs .match3 .rest .0 .0 .0 .0 .0 .0 .0 .1) (rs .match3 .rest .0 .0 .0 .0 .0 .0 .1) (rs .match3 .rest .0 .0 .0 .0 .0 .1) (rs .match3 .rest .0 .0 .0 .0 .1) (rs .match3 .rest .0 .0 .0 .1) (rs .match3 .rest .0 .0 .1) (rs .match3 .rest .0 .1) (rs .match3 .rest .1) _ (rp .reply-of .ensures))
     (eo .entry-of2 .ensures ∙ ap (λ (k : ℕ). entry (from l .position + l .loop .i) (me l) k (rp .reply-of .result)) (row-no b))
     (aa .add-answer .kept .0)
     (aa .add-answer .ensures)
@@ -688,8 +686,8 @@ loop-less-17 : tie.Need-loop-less-17 Inv-loop μ-loop
 loop-less-17 c = search needs
 
 loop-again-17 : tie.Need-loop-again-17 Inv-loop μ-loop
-loop-again-17 c = let x = c .before .before .before in
-    let k = c .before .match3 .keys1 in
+loop-again-17 c = let x = c .before .before in
+    let k = c .before .match .keys2 in
     hold-crash (head x .loop .inv) (meets x) (let e : byte (head x) / 16 ≡ 1 = k in omega arith) (here x) k
 
 mul-named-2 : tie.Need-mul-named-2 Inv-loop μ-loop
@@ -720,8 +718,8 @@ loop-less-18 : tie.Need-loop-less-18 Inv-loop μ-loop
 loop-less-18 c = search needs
 
 loop-again-18 : tie.Need-loop-again-18 Inv-loop μ-loop
-loop-again-18 c = let x = c .before .before .before .before .before .before .before .before in
-    let k = c .before .before .before .before .before .before .match3 .keys2 in
+loop-again-18 c = let x = c .before .before .before .before .before .before .before in
+    let k = c .before .before .before .before .before .before .match .keys3 in
     hold-wake-idle (head x .loop .inv) (meets x) (let e : byte (head x) / 16 ≡ 2 = k in omega arith) (here x) k (c .before .before .before .enum-told5 .given .1) (c .enum-told6 .given .1)
 
 enum-told-7 : tie.Need-enum-told-7 Inv-loop μ-loop
@@ -740,48 +738,36 @@ loop-less-19 : tie.Need-loop-less-19 Inv-loop μ-loop
 loop-less-19 c = search needs
 
 loop-again-19 : tie.Need-loop-again-19 Inv-loop μ-loop
-loop-again-19 c = let x = c .before .before .before .before .before .before .before .before .before in
-    let k = c .before .before .before .before .before .before .before .match3 .keys2 in
+loop-again-19 c = let x = c .before .before .before .before .before .before .before .before in
+    let k = c .before .before .before .before .before .before .before .match .keys3 in
     hold-wake-busy (head x .loop .inv) (meets x) (let e : byte (head x) / 16 ≡ 2 = k in omega arith) (here x) k (c .before .before .before .before .enum-told5 .given .1) _ (c .before .enum-told7 .given .1) _ (c .busy10 .ensures)
 
 loop-less-20 : tie.Need-loop-less-20 Inv-loop μ-loop
 loop-less-20 c = search needs
 
 loop-again-20 : tie.Need-loop-again-20 Inv-loop μ-loop
-loop-again-20 c = let x = c .before .before .before .before in
-    let k = c .before .before .match3 .keys2 in
+loop-again-20 c = let x = c .before .before .before in
+    let k = c .before .before .match .keys3 in
     hold-awake (head x .loop .inv) (meets x) (let e : byte (head x) / 16 ≡ 2 = k in omega arith) (here x) k (awake (mine x) (mine x .status) (c .match4 .keys2))
-
-crash-first-requires : tie.Need-crash-first-requires Inv-loop μ-loop
-crash-first-requires c κs = begins (head (c .before .before)) .pre .present
 
 loop-less-21 : tie.Need-loop-less-21 Inv-loop μ-loop
 loop-less-21 c = search needs
 
 loop-again-21 : tie.Need-loop-again-21 Inv-loop μ-loop
-loop-again-21 c = let x = c .before .before .before in
-    hold-all (head x .loop .inv) (meets x) (c .before .match3 .keys3) _ (c .crash-first .ensures)
+loop-again-21 c = let e = all-of (c .before) in let l = c .if3 .taken in absurd (omega arith)
+
+crash-first-requires : tie.Need-crash-first-requires Inv-loop μ-loop
+crash-first-requires c κs = begins (head (c .before .before)) .pre .present
 
 loop-less-22 : tie.Need-loop-less-22 Inv-loop μ-loop
 loop-less-22 c = search needs
 
 loop-again-22 : tie.Need-loop-again-22 Inv-loop μ-loop
-loop-again-22 c = nothing (c .before)
+loop-again-22 c = let x = c .before .before .before in
+    hold-all (head x .loop .inv) (meets x) (all-of (c .before .before)) _ (c .crash-first .ensures)
 
-loop-less-23 : tie.Need-loop-less-23 Inv-loop μ-loop
-loop-less-23 c = search needs
-
-loop-again-23 : tie.Need-loop-again-23 Inv-loop μ-loop
-loop-again-23 c = nothing (c .before .before)
-
-loop-less-24 : tie.Need-loop-less-24 Inv-loop μ-loop
-loop-less-24 c = search needs
-
-loop-again-24 : tie.Need-loop-again-24 Inv-loop μ-loop
-loop-again-24 c = nothing (c .before .before)
-
-add-t297 : tie.Need-add-t297 Inv-loop μ-loop
-add-t297 c = record { fits = let a = begins (c .before) .pre .early in omega arith }
+add-t298 : tie.Need-add-t298 Inv-loop μ-loop
+add-t298 c = record { fits = let a = begins (c .before) .pre .early in omega arith }
 
 same-length : tie.Need-same-length Inv-loop μ-loop
 same-length c = c .before .loop .inv .words-same
@@ -795,7 +781,7 @@ same-length-3 c = c .before .loop .inv .answers-same
 returns : tie.Need-returns Inv-loop μ-loop
 returns c = let l = c .before in
     let b = begins l .args in
-    hold-end (rows l) (b .present) (b .from) (now (b .schedule)) (now (b .words)) (now (b .log)) (now (b .answers)) (l .loop .inv) (let d = l .loop .inv .done in let t = c .loop-test .left in omega arith)
+    hold-end (rows l) (b .part .present) (b .part .from) (now (b .schedule)) (now (b .words)) (now (b .log)) (now (b .answers)) (l .loop .inv) (let d = l .loop .inv .done in let t = c .loop-test .left in omega arith)
 
 pub run-bytes-spec : {M : Type 1} → statement M
 run-bytes-spec =
@@ -819,8 +805,8 @@ run-bytes-spec =
     enum-told-2
     mul-process
     array-copy-out-process
-    mul-if2
-    array-read-if2
+    mul-if1
+    array-read-if1
     mul-processes
     array-set-from-processes
     loop-less-2
@@ -951,16 +937,12 @@ run-bytes-spec =
     loop-again-19
     loop-less-20
     loop-again-20
-    crash-first-requires
     loop-less-21
     loop-again-21
+    crash-first-requires
     loop-less-22
     loop-again-22
-    loop-less-23
-    loop-again-23
-    loop-less-24
-    loop-again-24
-    add-t297
+    add-t298
     same-length
     same-length-2
     same-length-3

@@ -21,24 +21,25 @@ use Rattle.rows.specs.Log.{insert}
 use Rattle.rows.specs.Buffers.{rowsOf, flat, infront}
 use Rattle.rows.specs.LogLaws.{length-insert}
 use Rattle.rows.specs.BufferLaws.{length-rowsOf, length-snoc, rows-back, rows-same, again}
 use Rattle.machine.specs.declared.Process.{Process}
 use Rattle.machine.specs.declared.Stage.{Stage}
 use Rattle.machine.specs.declared.Stage.the-variants.{A3, A4, A5, A6, V1, V3, V4, V5, V6}
 use Rattle.machine.specs.declared.Answer.the-variants.{False, True, Value}
 use Rattle.machine.specs.declared.Maybe.{Maybe}
 use Rattle.machine.specs.declared.Maybe.the-variants.{None, Is}
 use Rattle.machine.specs.declared.Status.{Status}
 use Rattle.machine.specs.declared.Status.the-variants.{Down, Idle, N2, N3, Busy}
 use Rattle.machine.specs.declared.Opened.the-variants.{Closed, Open}
-use Rattle.machine.specs.declared.Standing.{Standing}
+use Rattle.engine.specs.declared.Standing.{Standing}
 use Rattle.machine.specs.declared.Work.{Work}
 use Rattle.machine.specs.Turn.{Turn, Still, Quiet, Swaps, Logs, Loses, Replies}
 use Rattle.machine.specs.Stages.{stageNumber, stageAt, stage-of, numbered}
 use Rattle.machine.specs.Records.{fresh, nobody, with-status, with-kept, with-checkpoint, with-stored, closed, started, crashed, downTo, wokenUp, waked, rowOpen, WorkOpen}
 use Rattle.machine.specs.Steps.{entry, afterRead, tried, storing, recovered, sameBit, decide, stepTurn, working}
 use Rattle.machine.specs.Machine.{State, Effect, quiet, swaps, logs, replies, processOf, effectOf, turn, wordsAfter, logAfter, answersAfter, apply, applied, procAt, act, step, after}
 use Rattle.machine.specs.Laws.{after-snoc, getD-either, Sane, sane-idle, sane-after}
-use Rattle.machine.specs.Part.{Holds, stateLent, Left, entered, Entered, replyAt}
+use Rattle.machine.specs.Promises.{entered, Enters, replyAt}
+use Rattle.engine.specs.Part.{Holds, stateLent, Left}
 
 -- the length of a list of records, which is known of what they are in memory
 pub mapped : (X Y : Type 0) (f : X → Y) (l : List X) (n : ℕ) → length (map f l) ≡ n → length l ≡ n
@@ -263,13 +264,13 @@ module _ {rows : List Row} {P : ℕ} {from : Standing} {bytes words₀ log₀ an
       go (of-one high here) = here
       go (of-all high here) = absurd (omega arith)
 
-  -- no other byte comes
-  pub never : {A : Type 0} → 3 ≤ byte / 16 → (byte / 16 ≡ 15 → ⊥) → A
-  never high nt = go (q .lawful)
+  -- the only other byte that comes is a crash of all
+  pub last-of : 3 ≤ byte / 16 → byte / 16 ≡ 15
+  last-of high = go (q .lawful)
     where
-      go : {A : Type 0} → LawfulByte P byte → A
+      go : LawfulByte P byte → byte / 16 ≡ 15
       go (of-one low here) = absurd (omega arith)
-      go (of-all all here) = absurd (nt all)
+      go (of-all all here) = all
 
   pub hold-all : byte / 16 ≡ 15 → (x : List Process) → x ≡ downTo P ps → Holding rows P from bytes words₀ log₀ answers₀ (i + 1) words log answers x m k
   unfolding act
@@ -372,10 +373,10 @@ module _ {rows : List Row} {P : ℕ} {from : Standing} {bytes words₀ log₀ an
           by-set (replies e) next (told (Replies next said) w ∙ ap (λ e. apply (replies e) (set (S .processes) me next) S) (sym en)) (did-reply (q .log-room) (q .answers-room) e answers′ kept put)
 
       -- A5 is what `enter` did, whatever the record and the position are
-      entering : (x : Process) (w : Work) → w .row ≡ K
-          → logAfter (effectOf rows (rowsOf m log) me t K (row .word) (storing row x (w .seen) (w .«read_at») (w .«tried_at») (w .answer))) (rowsOf m log) ≡ entered rows row (rowsOf m log) me w
+      entering : (x : Process) (w : Work) → w .process ≡ me → w .row ≡ K
+          → logAfter (effectOf rows (rowsOf m log) me t K (row .word) (storing row x (w .seen) (w .«read_at») (w .«tried_at») (w .answer))) (rowsOf m log) ≡ entered rows row (rowsOf m log) w
       unfolding entered storing
-      entering x w e = rw e (go (w .answer))
+      entering x w by e = rw (by, e) (go (w .answer))
         where
           lost : (c : Bool) → logAfter (effectOf rows (rowsOf m log) me t K (row .word) (cond c (Loses x (w .«read_at») (w .«tried_at»)) (Logs x (w .«read_at») False))) (rowsOf m log)
               ≡ logAfter (effectOf rows (rowsOf m log) me 0 K (row .word) (cond c (Loses nobody (w .«read_at») (w .«tried_at»)) (Logs nobody (w .«read_at») False))) (rowsOf m log)
@@ -407,12 +408,12 @@ module _ {rows : List Row} {P : ℕ} {from : Standing} {bytes words₀ log₀ an
           go (Is (Value v)) = (refl, (λ l. refl), refl)
           go (Is False) = lost (eqb (value (w .seen)) (row .old))
 
-      pub hold-entered : (x : Process) (w : Work) (found : Row) (m′ : ℕ) (log′ : List ℕ) → u ≡ storing row x (w .seen) (w .«read_at») (w .«tried_at») (w .answer) → w .row ≡ K → found ≡ row
-          → length log′ ≡ length log → Entered rows found log m me w m′ log′ → Holding rows P from bytes words₀ log₀ answers₀ (i + 1) words log′ answers (set ps at x) m′ k
-      hold-entered x w found m′ log′ e on is kept d =
+      pub hold-entered : (x : Process) (w : Work) (found : Row) (m′ : ℕ) (log′ : List ℕ) → u ≡ storing row x (w .seen) (w .«read_at») (w .«tried_at») (w .answer) → w .process ≡ me → w .row ≡ K → found ≡ row
+          → length log′ ≡ length log → Enters rows found log m w m′ log′ → Holding rows P from bytes words₀ log₀ answers₀ (i + 1) words log′ answers (set ps at x) m′ k
+      hold-entered x w found m′ log′ e by on is kept d =
           let v = storing row x (w .seen) (w .«read_at») (w .«tried_at») (w .answer) in
           let f = effectOf rows (rowsOf m log) me t K (row .word) v in
-          let same : logAfter f (rowsOf m log) ≡ entered rows found (rowsOf m log) me w = entering x w on ∙ ap (λ row. entered rows row (rowsOf m log) me w) (sym is) in
+          let same : logAfter f (rowsOf m log) ≡ entered rows found (rowsOf m log) w = entering x w by on ∙ ap (λ row. entered rows row (rowsOf m log) w) (sym is) in
           let a = alone x w in
           by-set f x
           (told v e ∙ ap (λ l. apply (effectOf rows l me t K (row .word) v) (set (S .processes) me (processOf r v)) S) (sym same-log) ∙ ap (λ x. apply f (set (S .processes) me x) S) (a .2))
