@@ -2,7 +2,7 @@
 -- the same old to the same new, at most one is told true, and it is one that made the move itself. For by the replay the first true leaves
 -- new, and new is not old.
 use Prim.Native.Nat.{ℕ, _+_, _≤_, _<_}
-use mathlib.Core.Path.{_≡_, refl, sym, _∙_, ap}
+use mathlib.Core.Path.{_≡_, refl, sym, _∙_, ap, subst}
 use mathlib.Core.Bool.{Bool, true, false, cond}
 use mathlib.Core.List.{List, [], _∷_, map, append-nil}
 use native.Mathlib.Omega.{arith}
@@ -11,18 +11,32 @@ use lib.ListN.{length, getD, set}
 use lib.Seq.{getD-set-same}
 use borrow.Author.Tests.{eqb-true}
 use Rattle.runfile.specs.declared.Row.{Row}
-use Rattle.runfile.specs.Operations.{rowNumbered, newOf}
+use Rattle.runfile.specs.Operations.{rowNumbered}
+use Rattle.runfile.specs.Kinds.{kindOf, newOf, new-put}
 use Rattle.word.specs.Word.{value}
 use Rattle.rows.specs.declared.Entry.{Entry}
-use Rattle.rows.specs.Entries.{said, isTrue}
-use Rattle.machine.specs.declared.Answer.the-variants.{True}
+use Rattle.rows.specs.Entries.{said, isSwapped}
+use Rattle.machine.specs.declared.Answer.the-variants.{False, True, Value}
 use Rattle.machine.specs.declared.Maybe.the-variants.{None, Is}
+use Rattle.machine.specs.Steps.{spoken}
+use Rattle.machine.specs.KindLaws.{says-true}
 use Rattle.machine.specs.Machine.{begin}
 use Rattle.replay.specs.Plain.{answerOf, leaves, Replayed}
 use Rattle.replay.specs.Lists.{All}
-use Rattle.replay.specs.Replay.{answer-true}
-use Rattle.demand3.specs.Statement.{of, counts, swapCount, swapsTold, swaps, swapsWith, Told, Demand3}
-use Rattle.demand3.specs.Swaps.{trues, truesOf, logged-count}
+use Rattle.replay.specs.Replay.{answer-swapped}
+use Rattle.demand3.specs.Statement.{of, Once, ownerOf, counts, swapCount, swapsTold, swaps, swapsWith, Told, Untold, Demand3}
+use Rattle.demand3.specs.Swaps.{swapsIn, swapsOf, logged-count}
+
+-- told true it swapped once, told anything else never
+pub told-counts : (swapsTold (Is True) ≡ 1) × (swapsTold None ≡ 0) × (swapsTold (Is False) ≡ 0) × ((v : ℕ) → swapsTold (Is (Value v)) ≡ 0)
+unfolding swapsTold isSwapped spoken
+told-counts = (refl, refl, refl, λ v. refl)
+
+-- an open row that has swapped stands in the log with true
+pub open-true : (rows : List Row) (P : ℕ) (words schedule : List ℕ) (log answers : List Entry) (k : ℕ) → Untold rows P words schedule k log answers → swaps rows P words schedule k ≡ 1 → Once (ownerOf rows k) k (Is True) log
+open-true rows P words schedule log answers k u e =
+    let stands = u .has-swapped e in
+    subst (λ a. Once (ownerOf rows k) k (Is a) log) (says-true (kindOf (rowNumbered rows k)) (stands .0)) (stands .1)
 
 module _ (rows : List Row) (P : ℕ) (words schedule : List ℕ) (log answers : List Entry) (k : ℕ) (t : Told rows P words schedule k log answers) where
   swapped-as-told : swaps rows P words schedule k ≡ swapsTold (t .answer)
@@ -30,24 +44,24 @@ module _ (rows : List Row) (P : ℕ) (words schedule : List ℕ) (log answers : 
 
   -- told true: it swapped exactly once
   pub told-true : t .answer ≡ Is True → swaps rows P words schedule k ≡ 1
-  told-true e = swapped-as-told ∙ ap swapsTold e
+  told-true e = swapped-as-told ∙ ap swapsTold e ∙ told-counts .0
 
   -- told fail: it never swapped, and never will
   pub told-fail : t .answer ≡ None → (more : List ℕ) → swapsWith rows P words schedule k more ≡ 0
-  told-fail e more = t .swapped more ∙ ap swapsTold e
+  told-fail e more = t .swapped more ∙ ap swapsTold e ∙ told-counts .1
 
   -- who has not swapped is not told true, whoever else has put in the same value
   pub not-its-own : swaps rows P words schedule k ≡ 0 → t .answer ≡ Is True → ⊥
   not-its-own z e = let one : swaps rows P words schedule k ≡ 1 = told-true e in omega arith
 
--- trues of two rows are trues of the log
-two-rows : (k j : ℕ) → (k ≡ j → ⊥) → (log : List Entry) → truesOf k log + truesOf j log ≤ trues log
-unfolding trues truesOf of
+-- swaps of two rows are swaps in the log
+two-rows : (k j : ℕ) → (k ≡ j → ⊥) → (log : List Entry) → swapsOf k log + swapsOf j log ≤ swapsIn log
+unfolding swapsIn swapsOf of
 two-rows k j n [] = omega arith
 two-rows k j n (e ∷ log) = go (eqb (e .row) k) (eqb (e .row) j) refl refl (two-rows k j n log)
   where
-    go : (c d : Bool) → eqb (e .row) k ≡ c → eqb (e .row) j ≡ d → truesOf k log + truesOf j log ≤ trues log
-        → trues (cond c (e ∷ of k log) (of k log)) + trues (cond d (e ∷ of j log) (of j log)) ≤ counts (isTrue (said e)) + trues log
+    go : (c d : Bool) → eqb (e .row) k ≡ c → eqb (e .row) j ≡ d → swapsOf k log + swapsOf j log ≤ swapsIn log
+        → swapsIn (cond c (e ∷ of k log) (of k log)) + swapsIn (cond d (e ∷ of j log) (of j log)) ≤ counts (isSwapped (said e)) + swapsIn log
     go true true x y h = absurd (n (sym (eqb-true (e .row) k x) ∙ eqb-true (e .row) j y))
     go true false x y h = omega arith
     go false true x y h = omega arith
@@ -62,11 +76,11 @@ pub record Moving (rows : List Row) (w old new k : ℕ) : Type 0 where
 module _ (rows : List Row) (w old new : ℕ) (differ : new ≡ old → ⊥) (moving : (k : ℕ) → k < length rows → Moving rows w old new k) where
   -- the row of an entry answers true at these values, or not
   answer : Entry → List ℕ → Bool
-  answer e values = isTrue (answerOf (rowNumbered rows (e .row)) (getD values (rowNumbered rows (e .row) .word) 0))
+  answer e values = isSwapped (answerOf (rowNumbered rows (e .row)) (getD values (rowNumbered rows (e .row) .word) 0))
 
   -- from new on, nobody is told true
-  none-after : (values : List ℕ) (log : List Entry) (finals : List ℕ) → Replayed rows values log finals → All (λ e. e .row < length rows) log → getD values w 0 ≡ new → trues log ≡ 0
-  unfolding trues leaves answer
+  none-after : (values : List ℕ) (log : List Entry) (finals : List ℕ) → Replayed rows values log finals → All (λ e. e .row < length rows) log → getD values w 0 ≡ new → swapsIn log ≡ 0
+  unfolding swapsIn leaves answer
   none-after values [] finals r in-file v = refl
   none-after values (e ∷ log) finals r in-file v = go (answer e values) refl (r .1) (λ h. none-after values log finals h (in-file .1) v)
     where
@@ -75,17 +89,17 @@ module _ (rows : List Row) (w old new : ℕ) (differ : new ≡ old → ⊥) (mov
 
       go : (c : Bool) → answer e values ≡ c
           → Replayed rows (cond c (set values (rowNumbered rows (e .row) .word) (newOf (rowNumbered rows (e .row)) (getD values (rowNumbered rows (e .row) .word) 0))) values) log finals
-          → (Replayed rows values log finals → trues log ≡ 0) → counts (isTrue (said e)) + trues log ≡ 0
+          → (Replayed rows values log finals → swapsIn log ≡ 0) → counts (isSwapped (said e)) + swapsIn log ≡ 0
       go true q h more =
-          let x : getD values (rowNumbered rows (e .row) .word) 0 ≡ rowNumbered rows (e .row) .old = answer-true (rowNumbered rows (e .row)) (getD values (rowNumbered rows (e .row) .word) 0) q .1 in
+          let x : getD values (rowNumbered rows (e .row) .word) 0 ≡ rowNumbered rows (e .row) .old = answer-swapped (rowNumbered rows (e .row)) (getD values (rowNumbered rows (e .row) .word) 0) q .1 in
           absurd (differ (sym v ∙ ap (λ i. getD values i 0) (sym (m .on)) ∙ x ∙ m .from-old))
       go false q h more =
-          let rest : trues log ≡ 0 = more h in
-          let here : isTrue (said e) ≡ false = ap isTrue (r .0) ∙ q in
+          let rest : swapsIn log ≡ 0 = more h in
+          let here : isSwapped (said e) ≡ false = ap isSwapped (r .0) ∙ q in
           rw (here, rest) refl
 
-  at-most-one : (values : List ℕ) (log : List Entry) (finals : List ℕ) → Replayed rows values log finals → All (λ e. e .row < length rows) log → w < length values → trues log ≤ 1
-  unfolding trues leaves answer
+  at-most-one : (values : List ℕ) (log : List Entry) (finals : List ℕ) → Replayed rows values log finals → All (λ e. e .row < length rows) log → w < length values → swapsIn log ≤ 1
+  unfolding swapsIn leaves answer
   at-most-one values [] finals r in-file l = omega arith
   at-most-one values (e ∷ log) finals r in-file l = go (answer e values) refl (r .1) (λ h. at-most-one values log finals h (in-file .1) l)
     where
@@ -94,24 +108,24 @@ module _ (rows : List Row) (w old new : ℕ) (differ : new ≡ old → ⊥) (mov
 
       go : (c : Bool) → answer e values ≡ c
           → Replayed rows (cond c (set values (rowNumbered rows (e .row) .word) (newOf (rowNumbered rows (e .row)) (getD values (rowNumbered rows (e .row) .word) 0))) values) log finals
-          → (Replayed rows values log finals → trues log ≤ 1) → counts (isTrue (said e)) + trues log ≤ 1
+          → (Replayed rows values log finals → swapsIn log ≤ 1) → counts (isSwapped (said e)) + swapsIn log ≤ 1
       go true q h more =
-          let rest : trues log ≡ 0 =
-          none-after (set values (rowNumbered rows (e .row) .word) (rowNumbered rows (e .row) .new)) log finals h (in-file .1)
-          (rw (m .on, m .to-new) (getD-set-same values w new 0 l)) in
-          let here : isTrue (said e) ≡ true = ap isTrue (r .0) ∙ q in
+          let rest : swapsIn log ≡ 0 =
+          none-after (set values (rowNumbered rows (e .row) .word) (newOf (rowNumbered rows (e .row)) (getD values (rowNumbered rows (e .row) .word) 0))) log finals h (in-file .1)
+          (rw (new-put (kindOf (rowNumbered rows (e .row))) (rowNumbered rows (e .row) .new) (getD values (rowNumbered rows (e .row) .word) 0), m .on, m .to-new) (getD-set-same values w new 0 l)) in
+          let here : isSwapped (said e) ≡ true = ap isSwapped (r .0) ∙ q in
           rw (here, rest) (omega arith)
       go false q h more =
-          let rest : trues log ≤ 1 = more h in
-          let here : isTrue (said e) ≡ false = ap isTrue (r .0) ∙ q in
+          let rest : swapsIn log ≤ 1 = more h in
+          let here : isSwapped (said e) ≡ false = ap isSwapped (r .0) ∙ q in
           rw here (omega arith)
 
   -- the capture: two operations are not both told true
   pub one-mover : (P : ℕ) (words schedule : List ℕ) (log answers : List Entry) (values : List ℕ) → Demand3 rows P words schedule log answers values → w < length (map value words)
       → (k j : ℕ) → (k ≡ j → ⊥) → (t : Told rows P words schedule k log answers) (u : Told rows P words schedule j log answers) → t .answer ≡ Is True → u .answer ≡ Is True → ⊥
   one-mover P words schedule log answers values d l k j n t u et eu =
-      let one : trues log ≤ 1 = at-most-one (map value words) log values (d .replayed) (d .log-rows) l in
-      let a : truesOf k log ≡ 1 = logged-count (rowNumbered rows k .process) k (t .answer) log (t .logged) ∙ ap swapsTold et in
-      let b : truesOf j log ≡ 1 = logged-count (rowNumbered rows j .process) j (u .answer) log (u .logged) ∙ ap swapsTold eu in
-      let two : truesOf k log + truesOf j log ≤ trues log = two-rows k j n log in
+      let one : swapsIn log ≤ 1 = at-most-one (map value words) log values (d .replayed) (d .log-rows) l in
+      let a : swapsOf k log ≡ 1 = logged-count (rowNumbered rows k .process) k (t .answer) log (t .logged) ∙ ap swapsTold et ∙ told-counts .0 in
+      let b : swapsOf j log ≡ 1 = logged-count (rowNumbered rows j .process) j (u .answer) log (u .logged) ∙ ap swapsTold eu ∙ told-counts .0 in
+      let two : swapsOf k log + swapsOf j log ≤ swapsIn log = two-rows k j n log in
       omega arith

@@ -10,7 +10,8 @@ use borrow.Author.Tests.{ltb-true, ltb-false}
 use native.Mathlib.Nat.{add-zero}
 use lib.ListN.{length, take, drop, take-append-drop, length-map}
 use Rattle.runfile.specs.declared.Row.{Row}
-use Rattle.runfile.specs.Operations.{first, count}
+use Rattle.runfile.specs.Operations.{rowNumbered, first, count}
+use Rattle.runfile.specs.Kinds.{kindOf}
 use Rattle.word.specs.Word.{value}
 use Rattle.rows.specs.declared.Entry.{Entry}
 use Rattle.machine.specs.declared.Maybe.{Maybe}
@@ -18,22 +19,23 @@ use Rattle.machine.specs.declared.Maybe.the-variants.{None}
 use Rattle.machine.specs.declared.Opened.the-variants.{Open}
 use Rattle.machine.specs.Machine.{State, procAt, after, begin}
 use Rattle.machine.specs.Laws.{after-join}
+use Rattle.machine.specs.KindLaws.{says-swapped}
 use Rattle.replay.specs.Replay.{replayed}
 use Rattle.demand3.specs.Statement.{of, Logged, Before, ownerOf, Begun, StillOpen, Ended, swapCount, swapsTold, Told, Untold, Unbegun, Demand3}
 use Rattle.demand3.specs.Invariant as invariant
-use Rattle.demand3.specs.Invariant.{due, matches, IsOpen, Local, Global}
+use Rattle.demand3.specs.Invariant.{due, matches, says, IsOpen, Local, Global}
 use Rattle.demand3.specs.Plans.{Plan, Covered, covered}
 use Rattle.demand3.specs.Effects.{words-length}
 use Rattle.demand3.specs.Preserve.{inv-begin}
 use Rattle.demand3.specs.Past.{Passed, kept-after}
-use Rattle.demand3.specs.Swaps.{trues, truesOf, count-after, logged-count, told-once, logged-true, logged-not}
+use Rattle.demand3.specs.Swaps.{swapsIn, swapsOf, count-after, logged-count, told-once, logged-swapped, logged-not}
 use Rattle.demand3.specs.Order.{Always, good, own, inv, order}
 use Rattle.demand3.specs.Lost.{beaten}
 
 module _ (rows : List Row) (words : List ℕ) (P : ℕ) (plan : Plan P (length words) rows) where
-  -- the log has as many trues of row k as row k has swapped
-  counted : (bytes : List ℕ) (k : ℕ) → swapCount rows k 0 bytes (begin P words) ≡ truesOf k (after rows 0 bytes (begin P words) .log)
-  unfolding truesOf trues begin of
+  -- the log tells of as many swaps of row k as row k has made
+  counted : (bytes : List ℕ) (k : ℕ) → swapCount rows k 0 bytes (begin P words) ≡ swapsOf k (after rows 0 bytes (begin P words) .log)
+  unfolding swapsOf swapsIn begin of
   counted bytes k =
       sym (count-after rows (map value words) (good rows words P plan) (own rows words P plan) Always (λ k a b h g. tt) P k 0 bytes (begin P words) (λ k a h. tt) (inv-begin rows Always P words)
       ∙ add-zero (swapCount rows k 0 bytes (begin P words)))
@@ -85,7 +87,7 @@ module _ (rows : List Row) (words : List ℕ) (P : ℕ) (plan : Plan P (length w
       s = after rows 0 schedule (begin P words)
 
       told : Ended rows k s → Told rows P words schedule k (s .log) (s .answers)
-      unfolding truesOf
+      unfolding swapsOf
       told e =
           let h : invariant.Ended p k (s .log) (s .answers) =
           subst (λ j. invariant.Ended p j (s .log) (s .answers)) is (local schedule .ended i (passed s e .begun) (passed s e .shut)) in
@@ -93,35 +95,35 @@ module _ (rows : List Row) (words : List ℕ) (P : ℕ) (plan : Plan P (length w
             answer = h .answer;
             answered = h .answered;
             logged = h .logged;
-            swapped = λ more. counted (schedule ++ more) k ∙ ap trues (stays schedule more e) ∙ logged-count p k (h .answer) (s .log) (h .logged);
+            swapped = λ more. counted (schedule ++ more) k ∙ ap swapsIn (stays schedule more e) ∙ logged-count p k (h .answer) (s .log) (h .logged);
           }
 
       untold : StillOpen rows k s → Untold rows P words schedule k (s .log) (s .answers)
       unfolding due
       untold o =
           let h : IsOpen rows (map value words) p k s (procAt p s) = local schedule .opened k o in
-          let owed : Maybe = due (procAt p s .stored) (procAt p s .checkpoint) (matches rows (map value words) p k (s .words) (procAt p s .kept)) in
+          let owed : Maybe = due (says rows (map value words) k) (procAt p s .stored) (procAt p s .checkpoint) (matches rows (map value words) p k (s .words) (procAt p s .kept)) in
           let n : swapCount rows k 0 schedule (begin P words) ≡ swapsTold owed = counted schedule k ∙ logged-count p k owed (s .log) (h .stands) in
           record {
             unanswered = h .unanswered;
             at-most-once = subst (λ n. n ≤ 1) (sym n) (told-once owed);
-            has-swapped = λ e. logged-true p k owed (s .log) (h .stands) (sym n ∙ e);
-            has-stored = λ a e. subst (λ d. Logged p k (due d (procAt p s .checkpoint) (matches rows (map value words) p k (s .words) (procAt p s .kept))) (s .log)) e (h .stands);
+            has-swapped = λ e. logged-swapped rows (map value words) p k owed (s .log) (inv rows words P plan schedule .global .right) (h .stands) (sym n ∙ e);
+            has-stored = λ a e. subst (λ d. Logged p k (due (says rows (map value words) k) d (procAt p s .checkpoint) (matches rows (map value words) p k (s .words) (procAt p s .kept))) (s .log)) e (h .stands);
             neither = λ z e.
-                let none : owed ≡ due None (procAt p s .checkpoint) (matches rows (map value words) p k (s .words) (procAt p s .kept)) =
-                ap (λ d. due d (procAt p s .checkpoint) (matches rows (map value words) p k (s .words) (procAt p s .kept))) e in
-                logged-not p k (procAt p s .checkpoint) (matches rows (map value words) p k (s .words) (procAt p s .kept)) (s .log)
+                let none : owed ≡ due (says rows (map value words) k) None (procAt p s .checkpoint) (matches rows (map value words) p k (s .words) (procAt p s .kept)) =
+                ap (λ d. due (says rows (map value words) k) d (procAt p s .checkpoint) (matches rows (map value words) p k (s .words) (procAt p s .kept))) e in
+                logged-not (says rows (map value words) k) (says-swapped (kindOf (rowNumbered rows k)) (rowNumbered rows k .old)) p k (procAt p s .checkpoint) (matches rows (map value words) p k (s .words) (procAt p s .kept)) (s .log)
                 (subst (λ d. Logged p k d (s .log)) none (h .stands)) (ap swapsTold (sym none) ∙ sym n ∙ z);
           }
 
       unbegun : (Begun rows k s → ⊥) → Unbegun rows P words schedule k (s .log) (s .answers)
-      unfolding truesOf trues
+      unfolding swapsOf swapsIn
       unbegun n =
           let none : of k (s .log) ≡ [] = subst (λ j. of j (s .log) ≡ []) is (local schedule .future-log i (not-yet s n) fits) in
           record {
             unlogged = none;
             unanswered = subst (λ j. of j (s .answers) ≡ []) is (local schedule .future-answers i (not-yet s n) fits);
-            unswapped = counted schedule k ∙ ap trues none;
+            unswapped = counted schedule k ∙ ap swapsIn none;
           }
 
   module _ (schedule : List ℕ) where

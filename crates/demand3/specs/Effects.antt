@@ -10,17 +10,16 @@ use Rattle.machine.specs.Machine.{Effect, quiet, swaps, logs, replies, State, a
 use Rattle.runfile.specs.declared.Row.{Row}
 use Rattle.machine.specs.declared.Process.{Process}
 use Rattle.word.specs.Word.{valueIn, value, bit, width}
-use Rattle.runfile.specs.Operations.{rowNumbered, first, count, newOf}
+use Rattle.runfile.specs.Operations.{rowNumbered, first, count}
+use Rattle.runfile.specs.Kinds.{newOf}
 use Rattle.rows.specs.Log.{insert, isSwap}
-use Rattle.rows.specs.Entries.{isTrue}
 use native.Mathlib.Omega.{arith}
 use lib.Seq.{getD-set-same, getD-set-other}
 use borrow.Author.Tests.{eq-eqb, ne-eqb, eqb-true, eqb-false}
-use Rattle.machine.specs.Steps.{spoken}
 use Rattle.word.specs.Laws.{after-swap}
 use Rattle.replay.specs.Lists.{All, all-join, all-map, all-put, keep, keep-join, keep-put-no, keep-put-yes}
 use Rattle.replay.specs.Logs.{Ordered, sorted-put, Put, put, insert-last}
-use Rattle.replay.specs.Replay.{Good, final, moved-true, final-join, right-join, length-final, right-put, final-put, early-put, early-put-later, is-swap}
+use Rattle.replay.specs.Replay.{Good, final, moved-swapped, final-join, right-join, length-final, right-put, final-put, early-put, early-put-later, is-swap}
 use Rattle.demand3.specs.Statement.{of, wordOf}
 use Rattle.demand3.specs.Invariant.{Times, HasSwap, Since, as-read, overtaken, Global, Swapping, Logging, Allowed}
 use Rattle.demand3.specs.Frames.{Frame}
@@ -96,13 +95,13 @@ module _ (rows : List Row) (start : List ℕ) where
     swap-last p k t w x e s g a = insert-last e (s .log) (g .sorted) (subst (λ t. All (λ e. e .position < t) (s .log)) (sym (a .at)) (g .below))
 
     swap-ends : (p k t w x : ℕ) (e : Entry) (s : State) → Global rows start Late t s → Swapping rows start Late p k t s w x e → final rows start (s .log ++ e ∷ []) ≡ map value (set (s .words) w x)
-    unfolding final isTrue spoken
+    unfolding final
     swap-ends p k t w x e s g a =
         let v : ℕ = value (wordOf rows k (s .words)) in
         let n : ℕ = newOf (rowNumbered rows k) v in
         let now : getD (final rows start (s .log)) (rowNumbered rows k .word) 0 ≡ v = plain t s g (rowNumbered rows k .word) in
         final-join rows start (s .log) (e ∷ [])
-        ∙ moved-true rows e (final rows start (s .log)) (ap isTrue (a .truly))
+        ∙ moved-swapped rows e (final rows start (s .log)) (a .truly)
         ∙ ap (λ k. set (final rows start (s .log)) (rowNumbered rows k .word) (newOf (rowNumbered rows k) (getD (final rows start (s .log)) (rowNumbered rows k .word) 0))) (a .row)
         ∙ ap (λ u. set (final rows start (s .log)) (rowNumbered rows k .word) (newOf (rowNumbered rows k) u)) now
         ∙ ap (λ vs. set vs (rowNumbered rows k .word) n) (g .ends)
@@ -228,7 +227,6 @@ module _ (rows : List Row) (start : List ℕ) where
 
     swap-since : (p k t w x v a y : ℕ) (e : Entry) (s : State) → Swapping rows start Late p k t s w x e → a < t → Put e (s .log) (insert e (s .log))
         → Since rows start v a (getD (s .words) v 0) y (s .log) → Since rows start v a (getD (set (s .words) w x) v 0) y (insert e (s .log))
-    unfolding isTrue spoken
     swap-since p k t w x v a y e s al h pt (overtaken n) = overtaken (has-put v a e pt n)
     swap-since p k t w x v a y e s al h pt (as-read n) = go (eqb v w) refl
       where
@@ -236,7 +234,7 @@ module _ (rows : List Row) (start : List ℕ) where
         go true q =
             let at : e .position ≡ t = al .at in
             overtaken (has-new v a e pt (is-swap rows v a e (record {
-              true-said = ap isTrue (al .truly);
+              swap-said = al .truly;
               later = omega arith;
               there = al .there;
               on = ap (λ k. rowNumbered rows k .word) (al .row) ∙ sym (al .word) ∙ sym (eqb-true v w q);

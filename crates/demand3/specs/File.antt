@@ -1,13 +1,12 @@
 -- Demand 3 of every run file that is not refused, and of what `run` leaves in the three buffers: the refusals give what the theorem asks of
 -- the rows, and the rows in the buffers are those of the log and of the answers.
 -- Assumes of the file that its numbers are bytes, which is what `run` is lent (`&[u8]`).
-use Prim.Native.Nat.{ℕ, zero, suc, _+_, _*_, _^_, _≤_, _<_}
+use Prim.Native.Nat.{ℕ, suc, _^_, _≤_, _<_}
 use mathlib.Core.Path.{_≡_, refl, sym, _∙_, ap, subst}
 use mathlib.Core.List.{List, _++_, map}
 use native.Mathlib.Omega.{arith}
 use lib.ListN.{length, take, drop}
 use lib.Seq.{take-append-seam}
-use borrow.Author.Tests.{eqb-false}
 use Rattle.runfile.specs.declared.Header.{Header}
 use Rattle.runfile.specs.declared.Row.{Row}
 use Rattle.runfile.specs.declared.Room.{Room}
@@ -16,9 +15,10 @@ use Rattle.runfile.specs.declared.Checked.the-variants as checked
 use Rattle.runfile.specs.Layout.{byteAt, headerIn, rowsStart, strideOf, rowPlace, scheduleIn}
 use Rattle.runfile.specs.RowLaws.{new-fits}
 use Rattle.runfile.specs.Operations.{wordsOf, tableOf, rowNumbered}
+use Rattle.runfile.specs.Kinds.{kindOf, new-put}
 use Rattle.runfile.specs.OperationLaws.{length-wordsFrom, length-rowsFrom, rowNumbered-rowsFrom}
 use Rattle.runfile.specs.Refusals.{refusalOf}
-use Rattle.runfile.specs.Table.{rowOf}
+use Rattle.runfile.specs.Table.{Same, SameFields, rowOf}
 use Rattle.runfile.specs.Lawful.{Lawful, lawful}
 use Rattle.word.specs.Word.{width, value}
 use Rattle.rows.specs.declared.Entry.{Entry}
@@ -26,7 +26,7 @@ use Rattle.rows.specs.Buffers.{rowsOf, infront}
 use Rattle.rows.specs.BufferLaws.{rows-back}
 use Rattle.run.specs.declared.Outcome.the-variants as outcome
 use Rattle.run.specs.Run.{endOf, roomOf, EndsAs, Ends}
-use Rattle.replay.specs.Replay.{Good}
+use Rattle.replay.specs.Replay.{Good, answer-swapped}
 use Rattle.demand3.specs.Statement.{Demand3}
 use Rattle.demand3.specs.Plans.{Plan}
 use Rattle.demand3.specs.Demand.{demand3, words-stay}
@@ -39,18 +39,16 @@ abbrev pub OfFile : Header → List ℕ → List Entry → List Entry → List �
 OfFile h f = Demand3 (tableOf h f) (h .processes) (wordsOf h f) (scheduleIn h f)
 
 module _ (f : List ℕ) (bytes : Bytes f) where
-  -- a row that is lawful is good: kind 0 reads, and kind 1 has an old and a new that differ
-  good-row : (W : ℕ) (row : Row) → row .kind ≤ 1 → row .word < W → row .new < 65536 → (row .kind ≡ 1 → row .old ≡ row .new → ⊥) → Good W row
-  good-row W row few inside fits differ =
+  -- a row that is lawful is good: where it swaps, it compares, and has an old and a new that differ
+  good-row : (W : ℕ) (row : Row) → row .word < W → row .new < 65536 → (SameFields row → ⊥) → Good W row
+  good-row W row inside fits differ =
       record {
         inside = inside;
-        fits = λ v. let z : 2 ^ width ≡ 65536 = refl in rw z fits;
-        differ = λ v compares is same. differ (one (row .kind) few (eqb-false (row .kind) 0 compares)) (sym is ∙ sym same);
+        fits = λ v. let z : 2 ^ width ≡ 65536 = refl in rw (new-put (kindOf row) (row .new) v, z) fits;
+        differ = λ v swaps same.
+            let w = answer-swapped row v swaps in
+            differ (subst (λ kind. Same kind (row .old) (row .new)) (sym (w .0)) (sym (w .1) ∙ sym same ∙ new-put (kindOf row) (row .new) v));
       }
-    where
-      one : (n : ℕ) → n ≤ 1 → (n ≡ 0 → ⊥) → n ≡ 1
-      one zero h n = absurd (n refl)
-      one (suc n) h _ = omega arith
 
   module _ (h : Header) (room : Room) (l : Lawful h f room) where
     many : length (tableOf h f) ≡ h .rows
@@ -66,7 +64,7 @@ module _ (f : List ℕ) (bytes : Bytes f) where
 
     good : (k : ℕ) → k < h .rows → Good (h .words) (rowOf h f k)
     good k g =
-        good-row (h .words) (rowOf h f k) (l .rows k g .kind) (l .rows k g .word) (new-fits f bytes (strideOf h) (rowPlace (strideOf h) (rowsStart h) k)) (l .differ k g)
+        good-row (h .words) (rowOf h f k) (l .rows k g .word) (new-fits f bytes (strideOf h) (rowPlace (strideOf h) (rowsStart h) k)) (l .differ k g)
 
     pub plan : Plan (h .processes) (length (wordsOf h f)) (tableOf h f)
     unfolding wordsOf

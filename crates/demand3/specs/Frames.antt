@@ -22,7 +22,7 @@ use Rattle.replay.specs.Logs.{early}
 use Rattle.replay.specs.Replay.{final}
 use native.Mathlib.Omega.{arith}
 use Rattle.demand3.specs.Statement.{of, Once, Logged}
-use Rattle.demand3.specs.Invariant.{Ended, due, Times, matches, HasSwap, Seen, Since, Reading, Pending, won, held, lost, AtStage, working, StatusOk, IsOpen, Local}
+use Rattle.demand3.specs.Invariant.{Ended, due, Times, matches, says, HasSwap, Seen, Since, Reading, Pending, won, held, lost, AtStage, working, StatusOk, IsOpen, Local}
 
 pub once-alone : {p k : ℕ} {m : Maybe} {l l′ : List Entry} → of k l′ ≡ of k l → Once p k m l → Once p k m l′
 once-alone e o = record { entry = o .entry; once = e ∙ o .once; process = o .process; says-so = o .says-so }
@@ -83,7 +83,7 @@ module _ (rows : List Row) (start : List ℕ) where
     stage-frame k o V3 x a ans h = h
     stage-frame k o V4 x a ans h = (h .0, h .1, matches-frame k (r .kept) ∙ h .2)
     stage-frame k o V5 x a ans h = h
-    stage-frame k o V6 x a ans h = (h .0, ap (due None (r .checkpoint)) (matches-frame k (r .kept)) ∙ h .1)
+    stage-frame k o V6 x a ans h = (h .0, ap (due (says rows start k) None (r .checkpoint)) (matches-frame k (r .kept)) ∙ h .1)
 
     status-frame : (st : Status) → StatusOk rows start Late p t (s .words) (s .log) r st → StatusOk rows start Late′ p t′ (s′ .words) (s′ .log) r st
     status-frame Down h = h
@@ -102,8 +102,8 @@ module _ (rows : List Row) (start : List ℕ) where
           row = o .row;
           unanswered = subst (λ k. of k (s′ .answers) ≡ of k (s .answers)) (sym (o .row)) (f .answers (o .index) i) ∙ o .unanswered;
           stands =
-              subst (λ m. Logged p k (due (r .stored) (r .checkpoint) m) (s′ .log)) (sym (matches-frame k (r .kept)))
-              (logged-alone p k (s .log) (s′ .log) (due (r .stored) (r .checkpoint) (matches rows start p k (s .words) (r .kept)))
+              subst (λ m. Logged p k (due (says rows start k) (r .stored) (r .checkpoint) m) (s′ .log)) (sym (matches-frame k (r .kept)))
+              (logged-alone p k (s .log) (s′ .log) (due (says rows start k) (r .stored) (r .checkpoint) (matches rows start p k (s .words) (r .kept)))
               (subst (λ k. of k (s′ .log) ≡ of k (s .log)) (sym (o .row)) (f .log (o .index) i)) (o .stands));
         }
 

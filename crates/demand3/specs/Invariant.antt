@@ -11,17 +11,19 @@ use Rattle.machine.specs.declared.Process.{Process}
 use Rattle.machine.specs.declared.Stage.{Stage}
 use Rattle.machine.specs.declared.Stage.the-variants.{A1, A2, A3, A4, A5, A6, V1, V2, V3, V4, V5, V6}
 use Rattle.machine.specs.declared.Answer.{Answer}
-use Rattle.machine.specs.declared.Answer.the-variants.{False, True}
+use Rattle.machine.specs.declared.Answer.the-variants.{False}
 use Rattle.machine.specs.declared.Maybe.{Maybe}
 use Rattle.machine.specs.declared.Maybe.the-variants.{None, Is}
 use Rattle.machine.specs.declared.Opened.the-variants.{Closed, Open}
 use Rattle.machine.specs.declared.Status.{Status}
 use Rattle.machine.specs.declared.Status.the-variants.{Down, Idle, N2, N3, Busy}
 use Rattle.word.specs.Word.{value, bit, swapped}
-use Rattle.runfile.specs.Operations.{rowNumbered, first, count, reads, newOf}
-use Rattle.rows.specs.Entries.{said, isTrue}
+use Rattle.runfile.specs.Operations.{rowNumbered, first, count}
+use Rattle.runfile.specs.declared.Kind.the-variants.{Compare}
+use Rattle.runfile.specs.Kinds.{kindOf, newOf}
+use Rattle.rows.specs.Entries.{said, isSwapped}
 use Rattle.rows.specs.Log.{isSwap}
-use Rattle.machine.specs.Steps.{sameBit, spoken}
+use Rattle.machine.specs.Steps.{sameBit, spoken, recalled}
 use Rattle.replay.specs.Lists.{All, keep}
 use Rattle.demand3.specs.Statement.{of, Once, Logged, wordOf}
 use Rattle.replay.specs.Logs.{Sorted, early}
@@ -34,12 +36,12 @@ pub record Ended (p k : ℕ) (log answers : List Entry) : Type 0 where
   pub answered : Once p k answer answers
   pub logged : Logged p k answer log
 
--- what the log holds for an open operation: by the stored answer, the checkpoint, and whether the own bit is the kept one
-unfoldable pub due : Maybe → Bool → Bool → Maybe
-due (Is a) c m = Is a
-due None true true = Is True
-due None true false = None
-due None false m = None
+-- what the log holds for an open operation: by what its swap says, the stored answer, the checkpoint, and whether the own bit is the kept one
+unfoldable pub due : Answer → Maybe → Bool → Bool → Maybe
+due says (Is a) c m = Is a
+due says None true true = Is says
+due says None true false = None
+due says None false m = None
 
 -- the times that count as late enough for a row's entry: the parameter of the order in time
 abbrev pub Times : Type 1
@@ -49,6 +51,10 @@ module _ (rows : List Row) (start : List ℕ) where
   -- whether p's own bit of row k's word is the kept one
   abbrev pub matches : ℕ → ℕ → List ℕ → Bool → Bool
   matches p k words b = sameBit (bit p (wordOf rows k words)) b
+
+  -- what the swap of row k says, which finds old
+  abbrev pub says : ℕ → Answer
+  says k = recalled (rowNumbered rows k)
 
   -- a swap on word w later than a is in the log
   pub record HasSwap (w a : ℕ) (log : List Entry) : Type 0 where
@@ -69,7 +75,7 @@ module _ (rows : List Row) (start : List ℕ) where
 
   -- at A2, A3, A4
   pub record Reading (Late : Times) (p k t a x : ℕ) (words : List ℕ) (log : List Entry) : Type 0 where
-    pub compares : reads (rowNumbered rows k) ≡ false
+    pub compares : kindOf (rowNumbered rows k) ≡ Compare
     pub old : value x ≡ rowNumbered rows k .old
     pub seen : Seen Late k t a x log
     pub since : Since (rowNumbered rows k .word) a (wordOf rows k words) x log
@@ -77,9 +83,9 @@ module _ (rows : List Row) (start : List ℕ) where
 
   -- at A5: a swap that succeeded; an answer that held at the time of the reading; a lost swap
   pub data Pending (Late : Times) (p k t a x : ℕ) (words : List ℕ) (log : List Entry) (c b : Bool) (ans : Maybe) : Type 0 where
-    won : ans ≡ Is True → c ≡ true → matches p k words b ≡ true → Pending Late p k t a x words log c b ans
-    held : Seen Late k t a x log → spoken ans ≡ answerOf (rowNumbered rows k) (value x) → isTrue (spoken ans) ≡ false → c ≡ false → Pending Late p k t a x words log c b ans
-    lost : Seen Late k t a x log → ans ≡ Is False → reads (rowNumbered rows k) ≡ false → value x ≡ rowNumbered rows k .old → HasSwap (rowNumbered rows k .word) a log → matches p k words b ≡ false
+    won : ans ≡ Is (says k) → c ≡ true → matches p k words b ≡ true → Pending Late p k t a x words log c b ans
+    held : Seen Late k t a x log → spoken ans ≡ answerOf (rowNumbered rows k) (value x) → isSwapped (spoken ans) ≡ false → c ≡ false → Pending Late p k t a x words log c b ans
+    lost : Seen Late k t a x log → ans ≡ Is False → kindOf (rowNumbered rows k) ≡ Compare → value x ≡ rowNumbered rows k .old → HasSwap (rowNumbered rows k .word) a log → matches p k words b ≡ false
         → Pending Late p k t a x words log c b ans
 
   -- by stage
@@ -95,7 +101,7 @@ module _ (rows : List Row) (start : List ℕ) where
   AtStage Late p k t words log r V3 x a ans = (r .stored ≡ None) × (r .checkpoint ≡ true)
   AtStage Late p k t words log r V4 x a ans = (r .stored ≡ None) × (r .checkpoint ≡ true) × (matches p k words (r .kept) ≡ true)
   AtStage Late p k t words log r V5 x a ans = (held : Answer) × (r .stored ≡ Is held)
-  AtStage Late p k t words log r V6 x a ans = (r .stored ≡ None) × (due None (r .checkpoint) (matches p k words (r .kept)) ≡ None)
+  AtStage Late p k t words log r V6 x a ans = (r .stored ≡ None) × (due (says k) None (r .checkpoint) (matches p k words (r .kept)) ≡ None)
 
   -- in the midst of work: a row is open
   pub data BusyOk (Late : Times) (p t : ℕ) (words : List ℕ) (log : List Entry) (r : Process) (stage : Stage) (x a : ℕ) (ans : Maybe) : Type 0 where
@@ -114,7 +120,7 @@ module _ (rows : List Row) (start : List ℕ) where
     pub begun : r .begun ≡ suc index
     pub row : k ≡ first rows p + index
     pub unanswered : of k (s .answers) ≡ []
-    pub stands : Logged p k (due (r .stored) (r .checkpoint) (matches p k (s .words) (r .kept))) (s .log)
+    pub stands : Logged p k (due (says k) (r .stored) (r .checkpoint) (matches p k (s .words) (r .kept))) (s .log)
 
   -- what holds of process p, whose record is r
   pub record Local (Late : Times) (p t : ℕ) (s : State) (r : Process) : Type 0 where
@@ -145,7 +151,7 @@ module _ (rows : List Row) (start : List ℕ) where
     pub at : e .position ≡ t
     pub late : Late (e .row) (e .position)
     pub row : e .row ≡ k
-    pub truly : said e ≡ spoken (Is True)
+    pub truly : isSwapped (said e) ≡ true
     pub word : w ≡ rowNumbered rows k .word
     pub new : x ≡ swapped p (newOf (rowNumbered rows k) (value (wordOf rows k (s .words)))) (wordOf rows k (s .words))
     pub there : e .row < length rows
@@ -155,7 +161,7 @@ module _ (rows : List Row) (start : List ℕ) where
     pub past : e .position < t
     pub late : Late (e .row) (e .position)
     pub row : e .row ≡ k
-    pub no-swap : isTrue (said e) ≡ false
+    pub no-swap : isSwapped (said e) ≡ false
     pub there : e .row < length rows
     pub right : RightAt rows (final rows start (early (e .position) (s .log))) e
 

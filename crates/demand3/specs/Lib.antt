@@ -3,6 +3,7 @@ pub mod Invariant
 pub mod Frames
 pub mod Effects
 pub mod Plans
+pub mod Answers
 pub mod Own
 pub mod Preserve
 pub mod Moves

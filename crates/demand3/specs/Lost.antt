@@ -9,12 +9,13 @@ use lib.ListN.{length}
 use borrow.Author.Tests.{eq-eqb}
 use Rattle.runfile.specs.declared.Row.{Row}
 use Rattle.runfile.specs.Operations.{rowNumbered}
+use Rattle.runfile.specs.Kinds.{kindOf}
 use Rattle.word.specs.Word.{value}
 use Rattle.rows.specs.declared.Entry.{Entry}
 use Rattle.rows.specs.Log.{isSwap}
 use Rattle.machine.specs.declared.Process.{Process}
 use Rattle.machine.specs.declared.Answer.{Answer}
-use Rattle.machine.specs.declared.Answer.the-variants.{False, True}
+use Rattle.machine.specs.declared.Answer.the-variants.{False}
 use Rattle.machine.specs.declared.Maybe.{Maybe}
 use Rattle.machine.specs.declared.Maybe.the-variants.{None, Is}
 use Rattle.machine.specs.declared.Opened.the-variants.{Open}
@@ -27,11 +28,9 @@ use Rattle.replay.specs.Replay.{first-swap}
 use Rattle.demand3.specs.Statement.{Beaten}
 use Rattle.demand3.specs.Invariant.{Times, HasSwap, Pending, won, held, lost, BusyOk, working, StatusOk}
 use Rattle.demand3.specs.Plans.{Plan}
-use Rattle.demand3.specs.Own.{open-same, answer-false, answer-never}
+use Rattle.demand3.specs.Answers.{answer-false, answer-never, says-not-false}
+use Rattle.demand3.specs.Own.{open-same}
 use Rattle.demand3.specs.Order.{Always, start, inv}
-
-false-true : Is False ≡ Is True → ⊥
-false-true e = let z : _≡_ {A = ℕ} 0 1 = cc in omega arith
 
 none-is : {a : Answer} → None ≡ Is a → ⊥
 none-is e = let z : _≡_ {A = ℕ} 0 1 = cc in omega arith
@@ -46,7 +45,7 @@ module _ (rows : List Row) (start : List ℕ) (Late : Times) (p k t a x : ℕ) (
       }
 
   pub lost-found : Pending rows start Late p k t a x words log c b (Is False) → value x ≡ rowNumbered rows k .old → Beaten rows (rowNumbered rows k .word) a log
-  lost-found (won e h m) old = absurd (false-true e)
+  lost-found (won e h m) old = absurd (says-not-false (kindOf (rowNumbered rows k)) (rowNumbered rows k .old) e)
   lost-found (held seen s n h) old = absurd (true≢false (sym (sym (answer-false (rowNumbered rows k) (value x) s) ∙ eq-eqb (value x) (rowNumbered rows k .old) old)))
   lost-found (lost seen e r o h m) old = beaten-of h
 

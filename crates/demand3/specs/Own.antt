@@ -7,7 +7,7 @@ use lib.Dec.{eqb, ltb}
 use lib.ListN.{length, getD, set}
 use Rattle.rows.specs.declared.Entry.{Entry}
 use Rattle.machine.specs.Machine.{quiet, swaps, logs, replies, Move, State, alone, apply, moveOf}
-use Rattle.machine.specs.Turn.{Quiet, Swaps}
+use Rattle.machine.specs.Turn.{Turn, Quiet, Swaps}
 use Rattle.runfile.specs.declared.Row.{Row}
 use Rattle.machine.specs.declared.Process.{Process}
 use Rattle.machine.specs.declared.Stage.{Stage}
@@ -21,14 +21,18 @@ use Rattle.machine.specs.declared.Opened.the-variants.{Closed, Open}
 use Rattle.machine.specs.declared.Status.{Status}
 use Rattle.machine.specs.declared.Status.the-variants.{Busy}
 use Rattle.word.specs.Word.{value, bit, swapped, width}
-use Rattle.runfile.specs.Operations.{rowNumbered, first, count, reads, newOf}
-use Rattle.rows.specs.Entries.{Said, said, isTrue}
+use Rattle.runfile.specs.Operations.{rowNumbered, first, count}
+use Rattle.runfile.specs.declared.Kind.{Kind}
+use Rattle.runfile.specs.declared.Kind.the-variants.{Read, Compare}
+use Rattle.runfile.specs.Kinds.{kindOf, newOf}
+use Rattle.rows.specs.Entries.{said, isSwapped}
 use Rattle.rows.specs.Log.{firstSwap, isSwap}
 use native.Mathlib.Omega.{arith}
 use mathlib.Core.Logic.{_≢_}
 use lib.Seq.{getD-set-same}
-use borrow.Author.Tests.{eq-eqb, ne-eqb, eqb-true, eqb-false, ltb-true}
-use Rattle.machine.specs.Steps.{entry, tried, storing, recovered, sameBit, decide, spoken}
+use borrow.Author.Tests.{eq-eqb, eqb-true, eqb-false, ltb-true}
+use Rattle.machine.specs.Steps.{entry, readBy, swapSays, lostBy, tried, storing, recovered, sameBit, decide, spoken}
+use Rattle.machine.specs.KindLaws.{loss-false, says-swapped, says-stored}
 use Rattle.machine.specs.Records.{with-status, with-kept, with-checkpoint, with-stored, closed, started}
 use Rattle.word.specs.Laws.{after-swap}
 use Rattle.replay.specs.Lists.{All, all-map, all-right, Found, keep-found}
@@ -37,8 +41,9 @@ use Rattle.replay.specs.Plain.{answerOf}
 use Rattle.replay.specs.Replay.{Good, final, RightAt, swap-on, first-swap}
 use Rattle.replay.specs.Replay as replay
 use Rattle.demand3.specs.Statement.{of, Logged, wordOf}
-use Rattle.demand3.specs.Invariant.{Ended, due, Times, matches, HasSwap, Seen, Since, as-read, overtaken, Reading, Pending, won, held, lost, AtStage, working, StatusOk, IsOpen, Local, Global, Swapping, Allowed}
+use Rattle.demand3.specs.Invariant.{Ended, due, Times, matches, says, HasSwap, Seen, Since, as-read, overtaken, Reading, Pending, won, held, lost, AtStage, working, StatusOk, IsOpen, Local, Global, Swapping, Allowed}
 use Rattle.demand3.specs.Frames.{ended-alone}
+use Rattle.demand3.specs.Answers.{answer-old, answer-other, answer-read, answer-false, answer-never}
 use Rattle.demand3.specs.Effects.{words-length, plain, of-put, of-last, of-put-own, of-last-own}
 
 module _ (rows : List Row) (start : List ℕ) (Late : Times) where
@@ -72,7 +77,7 @@ module _ (rows : List Row) (start : List ℕ) (Late : Times) where
     -- the record changes and the row stays open
     own-step : (k : ℕ) → r .opened ≡ Open k → (s′ : State) (r′ : Process) → r′ .opened ≡ r .opened → r′ .begun ≡ r .begun
         → ((j : ℕ) → (j ≡ k → ⊥) → of j (s′ .log) ≡ of j (s .log)) → s′ .answers ≡ s .answers
-        → Logged p k (due (r′ .stored) (r′ .checkpoint) (matches rows start p k (s′ .words) (r′ .kept))) (s′ .log)
+        → Logged p k (due (says rows start k) (r′ .stored) (r′ .checkpoint) (matches rows start p k (s′ .words) (r′ .kept))) (s′ .log)
         → StatusOk rows start Late p (suc t) (s′ .words) (s′ .log) r′ (r′ .status)
         → Local rows start Late p (suc t) s′ r′
     own-step k o s′ r′ eo eb others ea stands work =
@@ -96,7 +101,7 @@ module _ (rows : List Row) (start : List ℕ) (Late : Times) where
 
     -- the row is closed with the answer row e
     own-close : (k : ℕ) → r .opened ≡ Open k → (e : Entry) (m : Maybe) (ps : List Process) → e .row ≡ k → e .process ≡ p → said e ≡ spoken m
-        → due (r .stored) (r .checkpoint) (matches rows start p k (s .words) (r .kept)) ≡ m
+        → due (says rows start k) (r .stored) (r .checkpoint) (matches rows start p k (s .words) (r .kept)) ≡ m
         → Local rows start Late p (suc t) (apply (replies e) ps s) (closed r)
     unfolding apply
     own-close k o e m ps er ep es ed =
@@ -200,42 +205,10 @@ same-self : (b : Bool) → sameBit b b ≡ true
 same-self true = refl
 same-self false = refl
 
-due-lost : (c : Bool) → due None c false ≡ None
+due-lost : (says : Answer) (c : Bool) → due says None c false ≡ None
 unfolding due
-due-lost true = refl
-due-lost false = refl
-
-answer-old : (row : Row) (v : ℕ) → reads row ≡ false → v ≡ row .old → answerOf row v ≡ spoken (Is True)
-unfolding answerOf spoken
-answer-old row v h e = rw (h, eq-eqb v (row .old) e)
-
-answer-other : (row : Row) (v : ℕ) → reads row ≡ false → (v ≡ row .old → ⊥) → answerOf row v ≡ spoken (Is False)
-unfolding answerOf spoken
-answer-other row v h e = rw (h, ne-eqb v (row .old) e)
-
-answer-read : (row : Row) (v : ℕ) → reads row ≡ true → answerOf row v ≡ spoken (Is (Value v))
-unfolding answerOf spoken
-answer-read row v h = rw h
-
--- an answer false is given at a value that is not old
-pub answer-false : (row : Row) (v : ℕ) → spoken (Is False) ≡ answerOf row v → eqb v (row .old) ≡ false
-unfolding answerOf spoken
-answer-false row v = go (reads row) (eqb v (row .old))
-  where
-    go : (c d : Bool) → record { verdict = 0; value = 0 } ≡ cond {A = Said} c (record { verdict = 3; value = v }) (cond d (record { verdict = 1; value = 0 }) (record { verdict = 0; value = 0 })) → d ≡ false
-    go true d h = absurd (let z : _≡_ {A = ℕ} 0 3 = ap (λ a. a .verdict) h in omega arith)
-    go false true h = absurd (let z : _≡_ {A = ℕ} 0 1 = ap (λ a. a .verdict) h in omega arith)
-    go false false h = refl
-
--- no row answers fail
-pub answer-never : (row : Row) (v : ℕ) → spoken None ≡ answerOf row v → ⊥
-unfolding answerOf spoken
-answer-never row v = go (reads row) (eqb v (row .old))
-  where
-    go : (c d : Bool) → record { verdict = 2; value = 0 } ≡ cond {A = Said} c (record { verdict = 3; value = v }) (cond d (record { verdict = 1; value = 0 }) (record { verdict = 0; value = 0 })) → ⊥
-    go true d h = let z : _≡_ {A = ℕ} 2 3 = ap (λ a. a .verdict) h in omega arith
-    go false true h = let z : _≡_ {A = ℕ} 2 1 = ap (λ a. a .verdict) h in omega arith
-    go false false h = let z : _≡_ {A = ℕ} 2 0 = ap (λ a. a .verdict) h in omega arith
+due-lost says true = refl
+due-lost says false = refl
 
 module _ (rows : List Row) (start : List ℕ) (good : (k : ℕ) → Good (length start) (rowNumbered rows k)) (Late : Times) (mono : (k a b : ℕ) → a ≤ b → Late k a → Late k b) where
   module _ (p t : ℕ) (s : State) (r : Process) (g : Global rows start Late t s) (l : Local rows start Late p t s r) (now : (k : ℕ) → Late k t) (k : ℕ) (o : r .opened ≡ Open k) where
@@ -253,17 +226,17 @@ module _ (rows : List Row) (start : List ℕ) (good : (k : ℕ) → Good (length
     make-busy u a f =
         busy (l .opened k o .index) (index-fits rows start Late p t s r l k o) (o ∙ ap Open (l .opened k o .row)) (subst (λ k. Allowed rows start Late p k t s (u .effect)) (l .opened k o .row) a) f
 
-    stood : (m : Maybe) → due (r .stored) (r .checkpoint) (matches rows start p k (s .words) (r .kept)) ≡ m → Logged p k m (s .log)
+    stood : (m : Maybe) → due (says rows start k) (r .stored) (r .checkpoint) (matches rows start p k (s .words) (r .kept)) ≡ m → Logged p k m (s .log)
     stood m e = subst (λ d. Logged p k d (s .log)) e (l .opened k o .stands)
 
     -- a quiet step: what is due stays
     own-quiet : (r′ : Process) → r′ .opened ≡ r .opened → r′ .begun ≡ r .begun
-        → due (r .stored) (r .checkpoint) (matches rows start p k (s .words) (r .kept)) ≡ due (r′ .stored) (r′ .checkpoint) (matches rows start p k (s .words) (r′ .kept))
+        → due (says rows start k) (r .stored) (r .checkpoint) (matches rows start p k (s .words) (r .kept)) ≡ due (says rows start k) (r′ .stored) (r′ .checkpoint) (matches rows start p k (s .words) (r′ .kept))
         → StatusOk rows start Late p (suc t) (s .words) (s .log) r′ (r′ .status)
         → Own rows start Late p t s r (alone r′)
     unfolding apply
     own-quiet r′ eo eb ed w =
-        calm refl (λ ps. own-step rows start Late p t s r l k o (apply quiet ps s) r′ eo eb (λ j n. refl) refl (stood (due (r′ .stored) (r′ .checkpoint) (matches rows start p k (s .words) (r′ .kept))) ed) w)
+        calm refl (λ ps. own-step rows start Late p t s r l k o (apply quiet ps s) r′ eo eb (λ j n. refl) refl (stood (due (says rows start k) (r′ .stored) (r′ .checkpoint) (matches rows start p k (s .words) (r′ .kept))) ed) w)
 
     seen-now : Seen rows start Late k (suc t) t word (s .log)
     seen-now =
@@ -282,20 +255,23 @@ module _ (rows : List Row) (start : List ℕ) (good : (k : ℕ) → Good (length
     reading-later a x h = record { compares = h .compares; old = h .old; seen = seen-later a x (h .seen); since = h .since; own = h .own }
 
     own-A1 : (x a ta : ℕ) (ans : Maybe) → AtStage rows start Late p k t (s .words) (s .log) r A1 x a ans → Own rows start Late p t s r (moveOf rows (s .log) p t k (rowNumbered rows k .word) r (decide (rowNumbered rows k) p t word r A1 x a ta ans))
-    unfolding decide isTrue spoken
-    own-A1 x a ta ans h = go (reads (rowNumbered rows k)) refl (eqb (value word) (rowNumbered rows k .old)) refl
+    unfolding decide isSwapped spoken
+    own-A1 x a ta ans h = go (kindOf (rowNumbered rows k)) refl
       where
-        go : (c : Bool) → reads (rowNumbered rows k) ≡ c → (d : Bool) → eqb (value word) (rowNumbered rows k .old) ≡ d
-            → Own rows start Late p t s r (alone (with-status (cond c (Busy A5 word t 0 (Is (Value (value word)))) (cond d (Busy A2 word t 0 None) (Busy A5 word t 0 (Is False)))) r))
-        go true q d e =
-            own-quiet (with-status (Busy A5 word t 0 (Is (Value (value word)))) r) refl refl refl
-            (working k o ((h .0, held seen-now (sym (answer-read (rowNumbered rows k) (value word) q)) refl (h .1))))
-        go false q true e =
+        compared : kindOf (rowNumbered rows k) ≡ Compare → (d : Bool) → eqb (value word) (rowNumbered rows k .old) ≡ d
+            → Own rows start Late p t s r (alone (with-status (cond d (Busy A2 word t 0 None) (Busy A5 word t 0 (Is False))) r))
+        compared q true e =
             own-quiet (with-status (Busy A2 word t 0 None) r) refl refl refl
             (working k o ((h .0, h .1, record { compares = q; old = eqb-true (value word) (rowNumbered rows k .old) e; seen = seen-now; since = as-read refl; own = refl })))
-        go false q false e =
+        compared q false e =
             own-quiet (with-status (Busy A5 word t 0 (Is False)) r) refl refl refl
             (working k o ((h .0, held seen-now (sym (answer-other (rowNumbered rows k) (value word) q (eqb-false (value word) (rowNumbered rows k .old) e))) refl (h .1))))
+
+        go : (kind : Kind) → kindOf (rowNumbered rows k) ≡ kind → Own rows start Late p t s r (alone (with-status (readBy kind (rowNumbered rows k .old) word t) r))
+        go Read q =
+            own-quiet (with-status (Busy A5 word t 0 (Is (Value (value word)))) r) refl refl refl
+            (working k o ((h .0, held seen-now (sym (answer-read (rowNumbered rows k) (value word) q)) refl (h .1))))
+        go Compare q = compared q (eqb (value word) (rowNumbered rows k .old)) refl
 
     own-A2 : (x a ta : ℕ) (ans : Maybe) → AtStage rows start Late p k t (s .words) (s .log) r A2 x a ans → Own rows start Late p t s r (moveOf rows (s .log) p t k (rowNumbered rows k .word) r (decide (rowNumbered rows k) p t word r A2 x a ta ans))
     unfolding decide due
@@ -337,12 +313,12 @@ module _ (rows : List Row) (start : List ℕ) (good : (k : ℕ) → Good (length
       where
         go : (c : Bool) → matches rows start p k (s .words) (r .kept) ≡ c → Own rows start Late p t s r (alone (with-status (Busy (cond c V4 V6) word a ta ans) r))
         go true e = own-quiet (with-status (Busy V4 word a ta ans) r) refl refl refl (working k o ((h .0, h .1, e)))
-        go false e = own-quiet (with-status (Busy V6 word a ta ans) r) refl refl refl (working k o ((h .0, rw e (due-lost (r .checkpoint)))))
+        go false e = own-quiet (with-status (Busy V6 word a ta ans) r) refl refl refl (working k o ((h .0, rw e (due-lost (says rows start k) (r .checkpoint)))))
 
     own-V4 : (x a ta : ℕ) (ans : Maybe) → AtStage rows start Late p k t (s .words) (s .log) r V4 x a ans → Own rows start Late p t s r (moveOf rows (s .log) p t k (rowNumbered rows k .word) r (decide (rowNumbered rows k) p t word r V4 x a ta ans))
     unfolding decide due
     own-V4 x a ta ans h =
-        own-quiet (with-stored (Busy V5 x a ta ans) (Is True) r) refl refl (rw (h .0, h .1, h .2)) (working k o ((True, refl)))
+        own-quiet (with-stored (Busy V5 x a ta ans) (Is (says rows start k)) r) refl refl (rw (h .0, h .1, h .2)) (working k o ((says rows start k, refl)))
 
     own-V5 : (x a ta : ℕ) (ans : Maybe) → AtStage rows start Late p k t (s .words) (s .log) r V5 x a ans → Own rows start Late p t s r (moveOf rows (s .log) p t k (rowNumbered rows k .word) r (decide (rowNumbered rows k) p t word r V5 x a ta ans))
     unfolding decide due
@@ -355,19 +331,24 @@ module _ (rows : List Row) (start : List ℕ) (good : (k : ℕ) → Good (length
         make-busy (record { process = closed r; effect = replies (entry t p k None) }) (refl, named) (λ ps. own-close rows start Late p t s r l k o (entry t p k None) None ps refl refl refl (rw (h .0) (h .1)))
 
     -- A4: the swap succeeds
+    abbrev swapSaid : ℕ → Answer
+    swapSaid x = swapSays (kindOf (rowNumbered rows k)) (value x)
+
     swapping : (x a : ℕ) → Reading rows start Late p k t a x (s .words) (s .log) → eqb word x ≡ true
-        → Swapping rows start Late p k t s (rowNumbered rows k .word) (swapped p (newOf (rowNumbered rows k) (value x)) x) (entry t p k (Is True))
+        → Swapping rows start Late p k t s (rowNumbered rows k .word) (swapped p (newOf (rowNumbered rows k) (value x)) x) (entry t p k (Is (swapSaid x)))
     swapping x a h e =
         let q : word ≡ x = eqb-true word x e in
         record {
           at = refl;
           late = now k;
           row = refl;
-          truly = refl;
+          truly = says-swapped (kindOf (rowNumbered rows k)) (value x);
           word = refl;
           new = ap (λ x. swapped p (newOf (rowNumbered rows k) (value x)) x) (sym q);
           there = named;
-          right = sym (answer-old (rowNumbered rows k) (getD (final rows start (s .log)) (rowNumbered rows k .word) 0) (h .compares) (plain rows start good Late t s g (rowNumbered rows k .word) ∙ ap value q ∙ h .old));
+          right =
+              let there : getD (final rows start (s .log)) (rowNumbered rows k .word) 0 ≡ value x = plain rows start good Late t s g (rowNumbered rows k .word) ∙ ap value q in
+              sym (ap (answerOf (rowNumbered rows k)) there ∙ answer-old (rowNumbered rows k) (value x) (h .compares) (h .old));
         }
 
     matched : (x a : ℕ) → Reading rows start Late p k t a x (s .words) (s .log) → r .kept ≡ not (bit p x)
@@ -384,7 +365,11 @@ module _ (rows : List Row) (start : List ℕ) (good : (k : ℕ) → Good (length
     own-A4 x a ta ans h = go (eqb word x) refl
       where
         e : Entry
-        e = entry t p k (Is True)
+        e = entry t p k (Is (swapSaid x))
+
+        -- what it says over the value that it found, which is old
+        as-old : swapSaid x ≡ says rows start k
+        as-old = ap (swapSays (kindOf (rowNumbered rows k))) (h .2 .old)
 
         x′ : ℕ
         x′ = swapped p (newOf (rowNumbered rows k) (value x)) x
@@ -393,23 +378,24 @@ module _ (rows : List Row) (start : List ℕ) (good : (k : ℕ) → Good (length
         absent = stood None (rw (h .0, h .1, unmatched a x (h .2) (h .3)))
 
         go : (c : Bool) → eqb word x ≡ c
-            → Own rows start Late p t s r (moveOf rows (s .log) p t k (rowNumbered rows k .word) r (cond c (Swaps (with-status (Busy A5 x a t (Is True)) r) (swapped p (newOf (rowNumbered rows k) (value x)) x)) (Quiet (with-status (Busy A5 x a t (Is False)) r))))
+            → Own rows start Late p t s r (moveOf rows (s .log) p t k (rowNumbered rows k .word) r (cond c (Swaps (with-status (Busy A5 x a t (Is (swapSaid x))) r) (swapped p (newOf (rowNumbered rows k) (value x)) x) (swapSaid x)) (Quiet (with-status (lostBy (kindOf (rowNumbered rows k)) x a t) r))))
         go true q =
-            make-busy (record { process = with-status (Busy A5 x a t (Is True)) r; effect = swaps (rowNumbered rows k .word) x′ e }) (swapping x a (h .2) q)
-            (λ ps. own-step rows start Late p t s r l k o (apply (swaps (rowNumbered rows k .word) x′ e) ps s) (with-status (Busy A5 x a t (Is True)) r) refl refl
+            make-busy (record { process = with-status (Busy A5 x a t (Is (swapSaid x))) r; effect = swaps (rowNumbered rows k .word) x′ e }) (swapping x a (h .2) q)
+            (λ ps. own-step rows start Late p t s r l k o (apply (swaps (rowNumbered rows k .word) x′ e) ps s) (with-status (Busy A5 x a t (Is (swapSaid x))) r) refl refl
             (λ j n. of-put j e (put e (s .log) (g .sorted)) (λ m. n (sym m))) refl
-            (rw (h .0, h .1, matched x a (h .2) (h .3)) (record { entry = e; once = of-put-own k e (put e (s .log) (g .sorted)) refl absent; process = refl; says-so = refl }))
-            (working k o ((h .0, won refl (h .1) (matched x a (h .2) (h .3))))))
+            (rw (h .0, h .1, matched x a (h .2) (h .3)) (record { entry = e; once = of-put-own k e (put e (s .log) (g .sorted)) refl absent; process = refl; says-so = ap (λ b. spoken (Is b)) as-old }))
+            (working k o ((h .0, won (ap Is as-old) (h .1) (matched x a (h .2) (h .3))))))
         go false q =
-            own-quiet (with-status (Busy A5 x a t (Is False)) r) refl refl refl
-            (working k o ((h .0, lost (seen-later a x (h .2 .seen)) refl (h .2 .compares) (h .2 .old) (passed (h .2 .since)) (unmatched a x (h .2) (h .3)))))
+            subst (λ st. Own rows start Late p t s r (alone (with-status st r))) (sym (loss-false (kindOf (rowNumbered rows k)) x a t))
+            (own-quiet (with-status (Busy A5 x a t (Is False)) r) refl refl refl
+            (working k o ((h .0, lost (seen-later a x (h .2 .seen)) refl (h .2 .compares) (h .2 .old) (passed (h .2 .since)) (unmatched a x (h .2) (h .3))))))
           where
             passed : Since rows start (rowNumbered rows k .word) a word x (s .log) → HasSwap rows start (rowNumbered rows k .word) a (s .log)
             passed (as-read n) = absurd (eqb-false word x q n)
             passed (overtaken n) = n
 
     -- A5: an answer that is no true enters the log, at a place where it is right
-    own-logs : (x a ta q : ℕ) (b : Answer) → isTrue (spoken (Is b)) ≡ false → q < t → Late k q → RightAt rows (final rows start (early q (s .log))) (entry q p k (Is b)) → of k (s .log) ≡ []
+    own-logs : (x a ta q : ℕ) (b : Answer) → isSwapped (spoken (Is b)) ≡ false → q < t → Late k q → RightAt rows (final rows start (early q (s .log))) (entry q p k (Is b)) → of k (s .log) ≡ []
         → Own rows start Late p t s r (record { process = with-stored (Busy A6 x a ta (Is b)) (Is b) r; effect = logs (entry q p k (Is b)) })
     unfolding apply due
     own-logs x a ta q b nt past late right absent =
@@ -438,11 +424,13 @@ module _ (rows : List Row) (start : List ℕ) (good : (k : ℕ) → Good (length
         })
 
     own-A5 : (x a ta : ℕ) (ans : Maybe) → r .stored ≡ None → Pending rows start Late p k t a x (s .words) (s .log) (r .checkpoint) (r .kept) ans → Own rows start Late p t s r (moveOf rows (s .log) p t k (rowNumbered rows k .word) r (decide (rowNumbered rows k) p t word r A5 x a ta ans))
-    unfolding decide storing due isTrue spoken
-    own-A5 x a ta (Is True) st (won e c m) = own-quiet (with-stored (Busy A6 x a ta (Is True)) (Is True) r) refl refl (rw (st, c, m)) (working k o (True, refl, refl))
-    own-A5 x a ta (Is False) st (won e c m) = absurd (let z : _≡_ {A = ℕ} 0 1 = cc in omega arith)
-    own-A5 x a ta (Is (Value v)) st (won e c m) = absurd (let z : _≡_ {A = ℕ} 0 1 = cc in omega arith)
-    own-A5 x a ta None st (won e c m) = absurd (let z : _≡_ {A = ℕ} 0 1 = cc in omega arith)
+    unfolding decide storing due isSwapped spoken
+    own-A5 x a ta ans st (won e c m) =
+        let next : Process = with-stored (Busy A6 x a ta ans) ans r in
+        let stays : Turn = storing (rowNumbered rows k) next x a ta ans in
+        let is : stays ≡ Quiet next = ap (storing (rowNumbered rows k) next x a ta) e ∙ says-stored (kindOf (rowNumbered rows k)) (rowNumbered rows k .old) (rowNumbered rows k) next x a ta in
+        subst (λ u. Own rows start Late p t s r (moveOf rows (s .log) p t k (rowNumbered rows k .word) r u)) (sym is)
+        (own-quiet next refl refl (rw (st, c, m, e)) (working k o (says rows start k, e, e)))
     own-A5 x a ta None st (held h e n c) = absurd (answer-never (rowNumbered rows k) (value x) e)
     own-A5 x a ta (Is True) st (held h e n c) = absurd (true≢false n)
     own-A5 x a ta (Is False) st (held h e n c) =
@@ -459,7 +447,7 @@ module _ (rows : List Row) (start : List ℕ) (good : (k : ℕ) → Good (length
         (own-logs x a ta q False refl (pl .past) (mono k a q (omega arith) (h .late))
         (sym (answer-other (rowNumbered rows k) (getD (final rows start (early q (s .log))) (rowNumbered rows k .word) 0) c
         (λ y. replay.lost rows start good (rowNumbered rows k .word) a ta (s .log) (w .entry) (w .rest) (g .sorted) (g .right) (g .there) (w .is) (y ∙ sym v ∙ sym (h .then)))))
-        (stood None (rw (st, m) (due-lost (r .checkpoint)))))
+        (stood None (rw (st, m) (due-lost (says rows start k) (r .checkpoint)))))
     own-A5 x a ta (Is (Value u)) st (lost h e c v w m) = absurd (let z : _≡_ {A = ℕ} 0 1 = cc in omega arith)
 
     pub own-stage : (stage : Stage) (x a ta : ℕ) (ans : Maybe) → AtStage rows start Late p k t (s .words) (s .log) r stage x a ans → Own rows start Late p t s r (moveOf rows (s .log) p t k (rowNumbered rows k .word) r (decide (rowNumbered rows k) p t word r stage x a ta ans))

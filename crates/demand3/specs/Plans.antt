@@ -1,6 +1,6 @@
 -- What the refusals give of the rows: each is good, and the rows of a process stand together.
 use Prim.Native.Nat.{ℕ, zero, suc, _+_, _≤_, _<_}
-use mathlib.Core.Path.{_≡_, refl}
+use mathlib.Core.Path.{_≡_, refl, sym}
 use mathlib.Core.Bool.{Bool, true, false, cond, true≢false}
 use mathlib.Core.List.{List, [], _∷_}
 use native.Mathlib.Omega.{arith}
@@ -11,7 +11,9 @@ use lib.ListN.{length, getD, List·getD-eq-default}
 use borrow.Author.Tests.{eq-eqb, ne-eqb, eqb-true, eqb-false, ltb-true, ltb-false, le-ltb}
 use Rattle.runfile.specs.declared.Row.{Row}
 use Rattle.runfile.specs.Operations.{blank, rowNumbered, first, count}
+use Rattle.rows.specs.Entries.{isSwapped}
 use Rattle.replay.specs.Lists.{All, all-map}
+use Rattle.replay.specs.Plain.{answerOf}
 use Rattle.replay.specs.Replay.{Good}
 
 -- refusals 9, 10 and 11 are given for none of the rows, over P processes and W words
@@ -48,12 +50,12 @@ all-inside P (r ∷ rows) h (suc k) l = all-inside P rows (h .1) k (omega arith)
 
 -- past the end stands a row of zeros, a read of word 0: it is good too
 pub good-at : (P W : ℕ) (rows : List Row) → Plan P W rows → (k : ℕ) → Good W (rowNumbered rows k)
-unfolding rowNumbered
+unfolding rowNumbered answerOf isSwapped
 good-at P W rows plan k = go (ltb k (length rows)) refl
   where
     go : (c : Bool) → ltb k (length rows) ≡ c → Good W (getD rows k blank)
     go true e = plan .good k (ltb-true k (length rows) e)
-    go false e = rw (List·getD-eq-default rows blank (ltb-false k (length rows) e)) (record { inside = plan .some-word; fits = λ v. lit< tt; differ = λ v e _ _. true≢false e })
+    go false e = rw (List·getD-eq-default rows blank (ltb-false k (length rows) e)) (record { inside = plan .some-word; fits = λ v. lit< tt; differ = λ v e _. true≢false (sym e) })
 
 first-none : (p : ℕ) (rows : List Row) → All (λ q. p ≤ q .process) rows → first rows p ≡ 0
 unfolding first

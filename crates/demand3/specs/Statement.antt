@@ -12,20 +12,21 @@ use lib.Dec.{eqb}
 use lib.ListN.{length, getD, take}
 use Rattle.runfile.specs.declared.Row.{Row}
 use Rattle.runfile.specs.Operations.{rowNumbered, first}
+use Rattle.runfile.specs.Kinds.{kindOf}
 use Rattle.runfile.specs.Actions.{named}
 use Rattle.word.specs.Word.{value}
 use Rattle.rows.specs.declared.Entry.{Entry}
-use Rattle.rows.specs.Entries.{said}
+use Rattle.rows.specs.Entries.{said, isSwapped}
 use Rattle.rows.specs.Log.{isSwap, firstSwap}
 use Rattle.machine.specs.declared.Answer.{Answer}
-use Rattle.machine.specs.declared.Answer.the-variants.{False, True, Value}
+use Rattle.machine.specs.declared.Answer.the-variants.{False}
 use Rattle.machine.specs.declared.Maybe.{Maybe}
 use Rattle.machine.specs.declared.Maybe.the-variants.{None, Is}
 use Rattle.machine.specs.declared.Opened.{Opened}
 use Rattle.machine.specs.declared.Opened.the-variants.{Closed, Open}
 use Rattle.machine.specs.declared.Stage.the-variants.{A5}
 use Rattle.machine.specs.declared.Status.the-variants.{Busy}
-use Rattle.machine.specs.Steps.{spoken}
+use Rattle.machine.specs.Steps.{spoken, swapSays}
 use Rattle.machine.specs.Machine.{State, procAt, step, after, begin}
 use Rattle.replay.specs.Plain.{Replayed}
 use Rattle.replay.specs.Lists.{All, keep, Found}
@@ -101,12 +102,9 @@ module _ (rows : List Row) where
     pub front-most : Found (isSwap rows w a) log by
     pub position : (otherwise : ℕ) → firstSwap rows w a otherwise log ≡ by .position
 
--- how often an operation that was told this has swapped
-abbrev pub swapsTold : Maybe → ℕ
-swapsTold None = 0
-swapsTold (Is False) = 0
-swapsTold (Is True) = 1
-swapsTold (Is (Value v)) = 0
+-- how often an operation that was told this has swapped: once if it was told of a successful swap, and else never
+unfoldable pub swapsTold : Maybe → ℕ
+swapsTold told = counts (isSwapped (spoken told))
 
 module _ (rows : List Row) (P : ℕ) (words schedule : List ℕ) where
   -- the state after the first n bytes, and after all of them
@@ -124,19 +122,19 @@ module _ (rows : List Row) (P : ℕ) (words schedule : List ℕ) where
   swaps k = swapCount rows k 0 schedule (begin P words)
 
   -- "An ended operation stands in the log once with its answer, or was told "fail" and does not stand there." It has one answer row. Told
-  -- true, it swapped exactly once; told anything else, it never swapped; and whatever bytes were to follow, that would be so
+  -- of a successful swap (true), it swapped exactly once; told anything else, it never swapped; and whatever bytes were to follow, that would be so
   pub record Told (k : ℕ) (log answers : List Entry) : Type 0 where
     pub answer : Maybe
     pub answered : Once (ownerOf rows k) k answer answers
     pub logged : Logged (ownerOf rows k) k answer log
     pub swapped : (more : List ℕ) → swapsWith k more ≡ swapsTold answer
 
-  -- "one not ended stands there once exactly if it has swapped or stored its answer": with true if it swapped, with the stored answer if
-  -- stored. It has no answer row
+  -- "one not ended stands there once exactly if it has swapped or stored its answer": with what a swap of its kind says over some value, which is
+  -- true, if it swapped (and `replayed` has the value that the word has there), with the stored answer if stored. It has no answer row
   pub record Untold (k : ℕ) (log answers : List Entry) : Type 0 where
     pub unanswered : of k answers ≡ []
     pub at-most-once : swaps k ≤ 1
-    pub has-swapped : swaps k ≡ 1 → Once (ownerOf rows k) k (Is True) log
+    pub has-swapped : swaps k ≡ 1 → (v : ℕ) × Once (ownerOf rows k) k (Is (swapSays (kindOf (rowNumbered rows k)) v)) log
     pub has-stored : (a : Answer) → Stored rows k (Is a) endState → Once (ownerOf rows k) k (Is a) log
     pub neither : swaps k ≡ 0 → Stored rows k None endState → of k log ≡ []
 

@@ -1,69 +1,72 @@
--- The log has as many trues of a row as the row has swapped. Each byte that changes the row's word while the row is open is a swap of that
--- row, and puts one true of it into the log; no other byte does.
+-- The log tells of as many successful swaps of a row as the row has made. Each byte that changes the row's word while the row is open is a swap of that
+-- row, and puts one entry that tells so into the log; no other byte does.
 use Prim.Native.Nat.{ℕ, suc, _+_, _^_, _≤_, _<_}
 use mathlib.Core.Path.{_≡_, refl, sym, _∙_, ap, subst}
 use mathlib.Core.Bool.{Bool, true, false, not, _&&_, true≢false}
 use mathlib.Core.List.{List, [], _∷_, _++_}
 use native.Mathlib.Omega.{arith}
-use native.Mathlib.Nat.{zero-add}
+use native.Mathlib.Nat.{zero-add, add-zero}
 use lib.Dec.{eqb}
 use lib.ListN.{length, getD, set}
 use lib.Seq.{getD-set-same}
 use borrow.Author.Tests.{eq-eqb, ne-eqb, eqb-true, eqb-false}
 use Rattle.runfile.specs.declared.Row.{Row}
-use Rattle.runfile.specs.Operations.{rowNumbered, first, count, newOf}
+use Rattle.runfile.specs.Operations.{rowNumbered, first, count}
+use Rattle.runfile.specs.Kinds.{kindOf, newOf}
 use Rattle.runfile.specs.Actions.{named}
 use Rattle.word.specs.Word.{width, value, bit, swapped}
 use Rattle.word.specs.Laws.{after-swap}
 use Rattle.rows.specs.declared.Entry.{Entry}
-use Rattle.rows.specs.Entries.{said, isTrue}
-use Rattle.machine.specs.declared.Answer.the-variants.{False, True, Value}
+use Rattle.rows.specs.Entries.{said, isSwapped}
+use Rattle.machine.specs.declared.Answer.{Answer}
 use Rattle.machine.specs.declared.Maybe.{Maybe}
 use Rattle.machine.specs.declared.Maybe.the-variants.{None, Is}
-use Rattle.machine.specs.Steps.{spoken}
+use Rattle.machine.specs.Steps.{spoken, swapSays}
 use Rattle.machine.specs.Machine.{State, Effect, quiet, swaps, logs, replies, wordsAfter, logAfter, procAt, step, after}
-use Rattle.replay.specs.Lists.{keep, keep-join, keep-put-yes}
+use Rattle.replay.specs.Lists.{keep, keep-join, keep-put-yes, Found, keep-found}
 use Rattle.replay.specs.Logs.{Put, put}
-use Rattle.replay.specs.Replay.{Good}
+use Rattle.replay.specs.Plain.{answerOf}
+use Rattle.replay.specs.Replay.{Good, final, Right, right-right}
 use Rattle.demand3.specs.Statement.{of, Once, Logged, isRow, counts, wordOf, swapsAt, swapCount, swapsTold}
 use Rattle.demand3.specs.Invariant.{due, Times, Inv, Allowed}
 use Rattle.demand3.specs.Effects.{of-put, words-length}
+use Rattle.demand3.specs.Answers.{answer-says}
 use Rattle.demand3.specs.Preserve.{inv-step}
 use Rattle.demand3.specs.Moves.{Does, nothing, allowed, does}
 
 not-counted : {a c n : ℕ} → c ≡ 0 → a ≡ n → a ≡ c + n
 not-counted e h = omega arith
 
--- how many of the entries say true; and how many of the log's entries of row k
-unfoldable pub trues : List Entry → ℕ
-trues [] = 0
-trues (e ∷ l) = counts (isTrue (said e)) + trues l
+-- how many of the entries tell of a successful swap; and how many of the log's entries of row k
+unfoldable pub swapsIn : List Entry → ℕ
+swapsIn [] = 0
+swapsIn (e ∷ l) = counts (isSwapped (said e)) + swapsIn l
 
-unfoldable pub truesOf : ℕ → List Entry → ℕ
-truesOf k log = trues (of k log)
+unfoldable pub swapsOf : ℕ → List Entry → ℕ
+swapsOf k log = swapsIn (of k log)
 
-trues-put : (a b : List Entry) (e : Entry) → trues (a ++ e ∷ b) ≡ counts (isTrue (said e)) + trues (a ++ b)
-unfolding trues
-trues-put [] b e = refl
-trues-put (f ∷ a) b e = let h : trues (a ++ e ∷ b) ≡ counts (isTrue (said e)) + trues (a ++ b) = trues-put a b e in omega arith
+swapsIn-put : (a b : List Entry) (e : Entry) → swapsIn (a ++ e ∷ b) ≡ counts (isSwapped (said e)) + swapsIn (a ++ b)
+unfolding swapsIn
+swapsIn-put [] b e = refl
+swapsIn-put (f ∷ a) b e = let h : swapsIn (a ++ e ∷ b) ≡ counts (isSwapped (said e)) + swapsIn (a ++ b) = swapsIn-put a b e in omega arith
 
-truesOf-put : (k : ℕ) {l l′ : List Entry} (e : Entry) → Put e l l′ → e .row ≡ k → truesOf k l′ ≡ counts (isTrue (said e)) + truesOf k l
-unfolding truesOf of
-truesOf-put k {l} {l′} e p h =
+swapsOf-put : (k : ℕ) {l l′ : List Entry} (e : Entry) → Put e l l′ → e .row ≡ k → swapsOf k l′ ≡ counts (isSwapped (said e)) + swapsOf k l
+unfolding swapsOf of
+swapsOf-put k {l} {l′} e p h =
     rw (p .was, p .now, keep-put-yes (λ e. eqb (e .row) k) (p .front) (p .back) e (eq-eqb (e .row) k h), keep-join (λ e. eqb (e .row) k) (p .front) (p .back))
-    (trues-put (keep (λ e. eqb (e .row) k) (p .front)) (keep (λ e. eqb (e .row) k) (p .back)) e)
+    (swapsIn-put (keep (λ e. eqb (e .row) k) (p .front)) (keep (λ e. eqb (e .row) k) (p .back)) e)
 
-truesOf-other : (k : ℕ) {l l′ : List Entry} (e : Entry) → Put e l l′ → (e .row ≡ k → ⊥) → truesOf k l′ ≡ truesOf k l
-unfolding truesOf
-truesOf-other k e p h = ap trues (of-put k e p h)
+swapsOf-other : (k : ℕ) {l l′ : List Entry} (e : Entry) → Put e l l′ → (e .row ≡ k → ⊥) → swapsOf k l′ ≡ swapsOf k l
+unfolding swapsOf
+swapsOf-other k e p h = ap swapsIn (of-put k e p h)
 
--- an entry that says anything but true changes nothing in the count
-truesOf-false : (k : ℕ) {l l′ : List Entry} (e : Entry) → Put e l l′ → isTrue (said e) ≡ false → truesOf k l′ ≡ truesOf k l
-truesOf-false k {l} {l′} e p h = go (eqb (e .row) k) refl
+-- an entry that tells of none changes nothing in the count
+swapsOf-false : (k : ℕ) {l l′ : List Entry} (e : Entry) → Put e l l′ → isSwapped (said e) ≡ false → swapsOf k l′ ≡ swapsOf k l
+swapsOf-false k {l} {l′} e p h = go (eqb (e .row) k) refl
   where
-    go : (c : Bool) → eqb (e .row) k ≡ c → truesOf k l′ ≡ truesOf k l
-    go true q = truesOf-put k e p (eqb-true (e .row) k q) ∙ ap (λ c. counts c + truesOf k l) h ∙ zero-add (truesOf k l)
-    go false q = truesOf-other k e p (eqb-false (e .row) k q)
+    go : (c : Bool) → eqb (e .row) k ≡ c → swapsOf k l′ ≡ swapsOf k l
+    go true q = swapsOf-put k e p (eqb-true (e .row) k q) ∙ ap (λ c. counts c + swapsOf k l) h ∙ zero-add (swapsOf k l)
+    go false q = swapsOf-other k e p (eqb-false (e .row) k q)
 
 module _ (rows : List Row) (k : ℕ) where
   -- a change of the word, counted if the row is open
@@ -91,11 +94,10 @@ module _ (rows : List Row) (start : List ℕ) (good : (k : ℕ) → Good (length
   module _ (t : ℕ) (now : (k : ℕ) → Late k t) (s : State) (v : Inv rows start Late P t s) where
     -- row j, of process p, is open and makes an allowed effect
     count-effect : (p j : ℕ) (f : Effect) (s′ : State) → Allowed rows start Late p j t s f → s′ .words ≡ wordsAfter f (s .words) → s′ .log ≡ logAfter f (s .log)
-        → truesOf k (s′ .log) ≡ counted rows k (eqb j k) s s′ + truesOf k (s .log)
-    unfolding isTrue spoken
-    count-effect p j quiet s′ a w l = not-counted (unchanged rows k (eqb j k) s s′ w) (ap (truesOf k) l)
-    count-effect p j (replies e) s′ a w l = not-counted (unchanged rows k (eqb j k) s s′ w) (ap (truesOf k) l)
-    count-effect p j (logs e) s′ a w l = not-counted (unchanged rows k (eqb j k) s s′ w) (ap (truesOf k) l ∙ truesOf-false k e (put e (s .log) (v .global .sorted)) (a .no-swap))
+        → swapsOf k (s′ .log) ≡ counted rows k (eqb j k) s s′ + swapsOf k (s .log)
+    count-effect p j quiet s′ a w l = not-counted (unchanged rows k (eqb j k) s s′ w) (ap (swapsOf k) l)
+    count-effect p j (replies e) s′ a w l = not-counted (unchanged rows k (eqb j k) s s′ w) (ap (swapsOf k) l)
+    count-effect p j (logs e) s′ a w l = not-counted (unchanged rows k (eqb j k) s s′ w) (ap (swapsOf k) l ∙ swapsOf-false k e (put e (s .log) (v .global .sorted)) (a .no-swap))
     count-effect p j (swaps x n e) s′ a w l = go (eqb j k) refl
       where
         changed : j ≡ k → eqb (wordOf rows k (s .words)) (wordOf rows k (s′ .words)) ≡ false
@@ -106,56 +108,71 @@ module _ (rows : List Row) (start : List ℕ) (good : (k : ℕ) → Good (length
             ∙ a .new ∙ ap (λ j. swapped p (newOf (rowNumbered rows j) (value (wordOf rows j (s .words)))) (wordOf rows j (s .words))) q in
             ne-eqb (wordOf rows k (s .words)) (wordOf rows k (s′ .words)) (λ m. turns rows k p (newOf (rowNumbered rows k) (value (wordOf rows k (s .words)))) (wordOf rows k (s .words)) (good k .fits (value (wordOf rows k (s .words)))) (m ∙ is))
 
-        go : (c : Bool) → eqb j k ≡ c → truesOf k (s′ .log) ≡ counted rows k c s s′ + truesOf k (s .log)
+        go : (c : Bool) → eqb j k ≡ c → swapsOf k (s′ .log) ≡ counted rows k c s s′ + swapsOf k (s .log)
         go true q =
             rw (changed (eqb-true j k q))
-            (ap (truesOf k) l ∙ truesOf-put k e (put e (s .log) (v .global .sorted)) (a .row ∙ eqb-true j k q) ∙ ap (λ d. counts (isTrue d) + truesOf k (s .log)) (a .truly))
-        go false q = not-counted refl (ap (truesOf k) l ∙ truesOf-other k e (put e (s .log) (v .global .sorted)) (λ m. eqb-false j k q (sym (a .row) ∙ m)))
+            (ap (swapsOf k) l ∙ swapsOf-put k e (put e (s .log) (v .global .sorted)) (a .row ∙ eqb-true j k q) ∙ ap (λ c. counts c + swapsOf k (s .log)) (a .truly))
+        go false q = not-counted refl (ap (swapsOf k) l ∙ swapsOf-other k e (put e (s .log) (v .global .sorted)) (λ m. eqb-false j k q (sym (a .row) ∙ m)))
 
-    count-step : (byte : ℕ) → truesOf k (step rows t byte s .log) ≡ counts (swapsAt rows k t byte s) + truesOf k (s .log)
+    count-step : (byte : ℕ) → swapsOf k (step rows t byte s .log) ≡ counts (swapsAt rows k t byte s) + swapsOf k (s .log)
     unfolding swapsAt
     count-step byte = go (does rows start good owner Late mono P t now s v byte)
       where
         s′ : State
         s′ = step rows t byte s
 
-        go : Does rows start Late (named byte) t s s′ → truesOf k (s′ .log) ≡ counted rows k (isRow k (procAt (named byte) s .opened)) s s′ + truesOf k (s .log)
-        go (nothing w l) = not-counted (unchanged rows k (isRow k (procAt (named byte) s .opened)) s s′ w) (ap (truesOf k) l)
+        go : Does rows start Late (named byte) t s s′ → swapsOf k (s′ .log) ≡ counted rows k (isRow k (procAt (named byte) s .opened)) s s′ + swapsOf k (s .log)
+        go (nothing w l) = not-counted (unchanged rows k (isRow k (procAt (named byte) s .opened)) s s′ w) (ap (swapsOf k) l)
         go (allowed j f g o a w l) =
-            subst (λ o. truesOf k (s′ .log) ≡ counted rows k (isRow k o) s s′ + truesOf k (s .log)) (sym o) (count-effect (named byte) (first rows (named byte) + j) f s′ a w l)
+            subst (λ o. swapsOf k (s′ .log) ≡ counted rows k (isRow k o) s s′ + swapsOf k (s .log)) (sym o) (count-effect (named byte) (first rows (named byte) + j) f s′ a w l)
 
   pub count-after : (t : ℕ) (bytes : List ℕ) (s : State) → ((k a : ℕ) → t ≤ a → Late k a) → Inv rows start Late P t s
-      → truesOf k (after rows t bytes s .log) ≡ swapCount rows k t bytes s + truesOf k (s .log)
+      → swapsOf k (after rows t bytes s .log) ≡ swapCount rows k t bytes s + swapsOf k (s .log)
   unfolding after swapCount
-  count-after t [] s now v = sym (zero-add (truesOf k (s .log)))
+  count-after t [] s now v = sym (zero-add (swapsOf k (s .log)))
   count-after t (byte ∷ bytes) s now v =
-      let this : truesOf k (step rows t byte s .log) ≡ counts (swapsAt rows k t byte s) + truesOf k (s .log) = count-step t (λ k. now k t (omega arith)) s v byte in
+      let this : swapsOf k (step rows t byte s .log) ≡ counts (swapsAt rows k t byte s) + swapsOf k (s .log) = count-step t (λ k. now k t (omega arith)) s v byte in
       let rest = count-after (suc t) bytes (step rows t byte s) (λ k a g. now k a (omega arith)) (inv-step rows start good owner Late mono t (λ k. now k t (omega arith)) s P v byte) in
       omega arith
 
 -- what stands in the log, by how often the row has swapped
-pub logged-count : (p k : ℕ) (m : Maybe) (log : List Entry) → Logged p k m log → truesOf k log ≡ swapsTold m
-unfolding truesOf trues isTrue spoken
-logged-count p k None log h = ap trues h
-logged-count p k (Is False) log h = ap trues (h .once) ∙ ap (λ d. counts (isTrue d) + 0) (h .says-so)
-logged-count p k (Is True) log h = ap trues (h .once) ∙ ap (λ d. counts (isTrue d) + 0) (h .says-so)
-logged-count p k (Is (Value v)) log h = ap trues (h .once) ∙ ap (λ d. counts (isTrue d) + 0) (h .says-so)
+pub logged-count : (p k : ℕ) (m : Maybe) (log : List Entry) → Logged p k m log → swapsOf k log ≡ swapsTold m
+unfolding swapsOf swapsIn swapsTold isSwapped spoken
+logged-count p k None log h = ap swapsIn h
+logged-count p k (Is a) log h = ap swapsIn (h .once) ∙ ap (λ d. counts (isSwapped d) + 0) (h .says-so) ∙ add-zero (counts (isSwapped (spoken (Is a))))
 
 pub told-once : (m : Maybe) → swapsTold m ≤ 1
-told-once None = omega arith
-told-once (Is False) = omega arith
-told-once (Is True) = omega arith
-told-once (Is (Value v)) = omega arith
+unfolding swapsTold
+told-once m = go (isSwapped (spoken m))
+  where
+    go : (c : Bool) → counts c ≤ 1
+    go true = omega arith
+    go false = omega arith
 
-pub logged-true : (p k : ℕ) (m : Maybe) (log : List Entry) → Logged p k m log → swapsTold m ≡ 1 → Once p k (Is True) log
-logged-true p k None log h e = absurd (omega arith)
-logged-true p k (Is False) log h e = absurd (omega arith)
-logged-true p k (Is True) log h e = h
-logged-true p k (Is (Value v)) log h e = absurd (omega arith)
+told-swap : (m : Maybe) → swapsTold m ≡ 1 → isSwapped (spoken m) ≡ true
+unfolding swapsTold
+told-swap m = go (isSwapped (spoken m))
+  where
+    go : (c : Bool) → counts c ≡ 1 → c ≡ true
+    go true e = refl
+    go false e = absurd (omega arith)
+
+-- a row that stands in a log that replays right, and tells there of a successful swap, tells what a swap of its kind says
+pub logged-swapped : (rows : List Row) (start : List ℕ) (p k : ℕ) (m : Maybe) (log : List Entry) → Right rows start log → Logged p k m log → swapsTold m ≡ 1
+    → (v : ℕ) × Once p k (Is (swapSays (kindOf (rowNumbered rows k)) v)) log
+unfolding of swapsTold isSwapped spoken
+logged-swapped rows start p k None log r h e = absurd (omega arith)
+logged-swapped rows start p k (Is a) log r h e =
+    let d : Found (λ e. eqb (e .row) k) log (h .entry) = keep-found (λ e. eqb (e .row) k) log (h .entry) [] (h .once) in
+    let v : ℕ = getD (final rows start (d .front)) (rowNumbered rows (h .entry .row) .word) 0 in
+    let right : said (h .entry) ≡ answerOf (rowNumbered rows (h .entry .row)) v = right-right rows start (d .front) (h .entry ∷ d .back) (subst (Right rows start) (d .whole) r) .0 in
+    let own : said (h .entry) ≡ answerOf (rowNumbered rows k) v = right ∙ ap (λ j. answerOf (rowNumbered rows j) v) (eqb-true (h .entry .row) k (d .passes)) in
+    let swap : isSwapped (answerOf (rowNumbered rows k) v) ≡ true = ap isSwapped (sym own ∙ h .says-so) ∙ told-swap (Is a) e in
+    (v, record { entry = h .entry; once = h .once; process = h .process; says-so = own ∙ answer-says (rowNumbered rows k) v swap })
 
 -- no answer stored, and no swap
-pub logged-not : (p k : ℕ) (c m : Bool) (log : List Entry) → Logged p k (due None c m) log → swapsTold (due None c m) ≡ 0 → of k log ≡ []
-unfolding due
-logged-not p k true true log h e = absurd (omega arith)
-logged-not p k true false log h e = h
-logged-not p k false m log h e = h
+pub logged-not : (says : Answer) → isSwapped (spoken (Is says)) ≡ true → (p k : ℕ) (c m : Bool) (log : List Entry) → Logged p k (due says None c m) log → swapsTold (due says None c m) ≡ 0 → of k log ≡ []
+unfolding due swapsTold
+logged-not says t p k true true log h e = absurd (let z : counts true ≡ 0 = rw t at e in omega arith)
+logged-not says t p k true false log h e = h
+logged-not says t p k false m log h e = h

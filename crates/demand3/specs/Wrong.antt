@@ -11,7 +11,7 @@ use Rattle.runfile.specs.declared.Row.{Row}
 use Rattle.runfile.specs.Operations.{rowNumbered, first, count, names}
 use Rattle.runfile.specs.Actions.{Action, step as steps, crash as crashes, wake as wakes, crashAll as crashesAll, none as idles, action, named}
 use Rattle.word.specs.Word.{value, valueIn, bitIn, swappedIn, bitOf, turnOf, flipsIn}
-use Rattle.rows.specs.Entries.{isTrue}
+use Rattle.rows.specs.Entries.{isSwapped}
 use Rattle.rows.specs.Log.{onePast, place, insert, isSwap, firstSwap}
 use Rattle.machine.specs.declared.Answer.the-variants.{False}
 use Rattle.machine.specs.declared.Maybe.{Maybe}
@@ -79,7 +79,7 @@ captured = afterBy byValue captureRows 0 captureSchedule (begin 2 (7 ∷ []))
 
 -- the machine itself has ended worker 0's row after these bytes; the wrong one has told it true, and has only worker 1's swap in its log
 row-ended : Ended captureRows 0 (after captureRows 0 captureSchedule (begin 2 (7 ∷ [])))
-unfolding captureRows captureSchedule swap rowNumbered first count valueIn bitIn swappedIn bitOf turnOf flipsIn isTrue onePast place insert spoken tried storing decide stepTurn applied apply procAt turn act step after begin
+unfolding captureRows captureSchedule swap rowNumbered first count valueIn bitIn swappedIn bitOf turnOf flipsIn isSwapped onePast place insert spoken tried storing decide stepTurn applied apply procAt turn act step after begin
 row-ended = record { begun = subst (λ n. 0 < n) (sym begun) (omega arith); shut = λ o. closed-open (sym shut ∙ o) }
   where
     begun : first captureRows 0 + procAt 0 (after captureRows 0 captureSchedule (begin 2 (7 ∷ []))) .begun ≡ 1
@@ -89,11 +89,11 @@ row-ended = record { begun = subst (λ n. 0 < n) (sym begun) (omega arith); shut
     shut = refl
 
 told-true : of 0 (captured .answers) ≡ record { position = 19; process = 0; row = 0; verdict = 1; value = 0 } ∷ []
-unfolding captured captureRows captureSchedule swap byValue recovering turnBy actBy afterBy of rowNumbered first count valueIn bitIn swappedIn bitOf turnOf flipsIn isTrue onePast place insert spoken tried storing decide stepTurn applied apply procAt turn act step after begin
+unfolding captured captureRows captureSchedule swap byValue recovering turnBy actBy afterBy of rowNumbered first count valueIn bitIn swappedIn bitOf turnOf flipsIn isSwapped onePast place insert spoken tried storing decide stepTurn applied apply procAt turn act step after begin
 told-true = refl
 
 not-logged : of 0 (captured .log) ≡ []
-unfolding captured captureRows captureSchedule swap byValue recovering turnBy actBy afterBy of rowNumbered first count valueIn bitIn swappedIn bitOf turnOf flipsIn isTrue onePast place insert spoken tried storing decide stepTurn applied apply procAt turn act step after begin
+unfolding captured captureRows captureSchedule swap byValue recovering turnBy actBy afterBy of rowNumbered first count valueIn bitIn swappedIn bitOf turnOf flipsIn isSwapped onePast place insert spoken tried storing decide stepTurn applied apply procAt turn act step after begin
 not-logged = refl
 
 pub capture-breaks : Demand3 captureRows 2 (7 ∷ []) captureSchedule (captured .log) (captured .answers) (map value (captured .words)) → ⊥
@@ -108,7 +108,7 @@ capture-breaks d = let t = d .ended 0 (omega arith) row-ended in go (t .answer) 
 pub atItsA4 : Row → (now next : ℕ) → Process → Turn → Turn
 atItsA4 row now k r Still = Still
 atItsA4 row now k r (Quiet next) = Quiet next
-atItsA4 row now k r (Swaps next x) = Swaps next x
+atItsA4 row now k r (Swaps next x says) = Swaps next x says
 atItsA4 row now k r (Logs next q a) = Logs next q a
 atItsA4 row now k r (Loses next after otherwise) = Logs next otherwise False
 atItsA4 row now k r (Replies next said) = Replies next said
@@ -124,7 +124,7 @@ pub back : State
 back = afterBy atItsA4 backRows 0 backSchedule (begin 3 (7 ∷ []))
 
 pub back-breaks : Demand3 backRows 3 (7 ∷ []) backSchedule (back .log) (back .answers) (map value (back .words)) → ⊥
-unfolding back backRows backSchedule swap atItsA4 turnBy actBy afterBy rowNumbered first count valueIn bitIn swappedIn bitOf turnOf flipsIn isTrue onePast place insert spoken tried storing decide stepTurn applied apply procAt turn act step after begin names isSwap firstSwap answerOf leaves
+unfolding back backRows backSchedule swap atItsA4 turnBy actBy afterBy rowNumbered first count valueIn bitIn swappedIn bitOf turnOf flipsIn isSwapped onePast place insert spoken tried storing decide stepTurn applied apply procAt turn act step after begin names isSwap firstSwap answerOf leaves
 back-breaks d = let z : _≡_ {A = ℕ} 0 1 = ap (λ d. d .verdict) (d .replayed .1 .1 .0) in omega arith
 
 -- 3. The row opened before the checkpoint is cleared
@@ -150,11 +150,11 @@ early = afterBy opensEarly earlyRows 0 earlySchedule (begin 1 (7 ∷ []))
 
 -- the machine itself has the second row open after these bytes; the wrong one has told it true
 row-open : StillOpen earlyRows 1 (after earlyRows 0 earlySchedule (begin 1 (7 ∷ [])))
-unfolding earlyRows earlySchedule swap rowNumbered first count valueIn bitIn swappedIn bitOf turnOf flipsIn isTrue onePast place insert spoken tried storing decide stepTurn applied apply procAt turn act step after begin
+unfolding earlyRows earlySchedule swap rowNumbered first count valueIn bitIn swappedIn bitOf turnOf flipsIn isSwapped onePast place insert spoken tried storing decide stepTurn applied apply procAt turn act step after begin
 row-open = refl
 
 told-early : of 1 (early .answers) ≡ record { position = 17; process = 0; row = 1; verdict = 1; value = 0 } ∷ []
-unfolding early earlyRows earlySchedule swap opensEarly announcing turnBy actBy afterBy of rowNumbered first count valueIn bitIn swappedIn bitOf turnOf flipsIn isTrue onePast place insert spoken tried storing decide stepTurn applied apply procAt turn act step after begin
+unfolding early earlyRows earlySchedule swap opensEarly announcing turnBy actBy afterBy of rowNumbered first count valueIn bitIn swappedIn bitOf turnOf flipsIn isSwapped onePast place insert spoken tried storing decide stepTurn applied apply procAt turn act step after begin
 told-early = refl
 
 pub early-breaks : Demand3 earlyRows 1 (7 ∷ []) earlySchedule (early .log) (early .answers) (map value (early .words)) → ⊥

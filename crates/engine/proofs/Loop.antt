@@ -15,6 +15,7 @@ use Rattle.runfile.specs.declared.Row.{Row}
 use Rattle.runfile.specs.Actions.{Action, step as steps, crash as crashes, wake as wakes, crashAll as crashesAll, action, named}
 use Rattle.runfile.specs.Lawful.{LawfulByte, of-one, of-all}
 use Rattle.runfile.specs.Operations.{rowNumbered, first, count}
+use Rattle.runfile.specs.Kinds.{kindOf, new-put}
 use Rattle.word.specs.Word.{value, bit, swapped}
 use Rattle.rows.specs.declared.Entry.{Entry}
 use Rattle.rows.specs.Log.{insert}
@@ -36,6 +37,7 @@ use Rattle.machine.specs.Turn.{Turn, Still, Quiet, Swaps, Logs, Loses, Replies}
 use Rattle.machine.specs.Stages.{stageNumber, stageAt, stage-of, numbered}
 use Rattle.machine.specs.Records.{fresh, nobody, with-status, with-kept, with-checkpoint, with-stored, closed, started, crashed, downTo, wokenUp, waked, rowOpen, WorkOpen}
 use Rattle.machine.specs.Steps.{entry, afterRead, tried, storing, recovered, sameBit, decide, stepTurn, working}
+use Rattle.machine.specs.KindLaws.{says-true, loss-false}
 use Rattle.machine.specs.Machine.{State, Effect, quiet, swaps, logs, replies, processOf, effectOf, turn, wordsAfter, logAfter, answersAfter, apply, applied, procAt, act, step, after}
 use Rattle.machine.specs.Laws.{after-snoc, getD-either, Sane, sane-idle, sane-after}
 use Rattle.machine.specs.Promises.{entered, Enters, replyAt}
@@ -361,10 +363,10 @@ module _ {rows : List Row} {P : ℕ} {from : Standing} {bytes words₀ log₀ an
       pub hold-record : (next : Process) → u ≡ Quiet next → Holding rows P from bytes words₀ log₀ answers₀ (i + 1) words log answers (set ps at next) m k
       hold-record next e = by-set quiet next (told (Quiet next) e) (did-quiet (q .log-room) (q .answers-room))
 
-      pub hold-won : (next : Process) (x : ℕ) (e : Entry) (words′ log′ : List ℕ) → u ≡ Swaps next x → e ≡ entry t me K (Is True) → words′ ≡ set words (row .word) x
+      pub hold-won : (next : Process) (x : ℕ) (e : Entry) (words′ log′ : List ℕ) → u ≡ Swaps next x True → e ≡ entry t me K (Is True) → words′ ≡ set words (row .word) x
           → length log′ ≡ length log → log′ ≡ infront (flat (insert e (rowsOf m log))) log → Holding rows P from bytes words₀ log₀ answers₀ (i + 1) words′ log′ answers (set ps at next) (m + 1) k
       hold-won next x e words′ log′ w en wrote kept put =
-          by-set (swaps (row .word) x e) next (told (Swaps next x) w ∙ ap (λ e. apply (swaps (row .word) x e) (set (S .processes) me next) S) (sym en))
+          by-set (swaps (row .word) x e) next (told (Swaps next x True) w ∙ ap (λ e. apply (swaps (row .word) x e) (set (S .processes) me next) S) (sym en))
           (did-log (q .log-room) (q .answers-room) (swaps (row .word) x e) words′ log′ (m + 1) wrote (λ l. refl) kept (sym (length-insert e (rowsOf m log) ∙ ap (λ n. n + 1) (length-rowsOf m log))) put)
 
       pub hold-answer : (next : Process) (said : Maybe) (e : Entry) (answers′ : List ℕ) → u ≡ Replies next said → e ≡ entry t me K said
@@ -466,14 +468,15 @@ module _ {rows : List Row} {P : ℕ} {from : Standing} {bytes words₀ log₀ an
         at-A3 e next s = decided-at 2 e ∙ ap (λ st. Quiet (with-checkpoint st true r)) (sym s)
 
         pub at-won : number ≡ 3 → (now : ℕ) → now ≡ seenNow → now ≡ seen → (next : Status) → next ≡ Busy A5 seen ra t (Is True) → (found : Row) → found ≡ row → (x : ℕ) → x ≡ swapped me (found .new) seen
-            → u ≡ Swaps (with-status next r) x
+            → u ≡ Swaps (with-status next r) x True
         unfolding decide tried
         at-won e now n same next s found f x y =
-            decided-at 3 e ∙ rw (eq-eqb seenNow seen (sym n ∙ same)) (ap₂ (λ st x. Swaps (with-status st r) x) (sym s) (sym (y ∙ ap (λ (row : Row). swapped me (row .new) seen) f)))
+            decided-at 3 e ∙ rw (eq-eqb seenNow seen (sym n ∙ same), says-true (kindOf row) (value seen), new-put (kindOf row) (row .new) (value seen))
+            (ap₂ (λ st x. Swaps (with-status st r) x True) (sym s) (sym (y ∙ ap (λ (row : Row). swapped me (row .new) seen) f)))
 
         pub at-lost : number ≡ 3 → (now : ℕ) → now ≡ seenNow → (now ≡ seen → ⊥) → (next : Status) → next ≡ Busy A5 seen ra t (Is False) → u ≡ Quiet (with-status next r)
         unfolding decide tried
-        at-lost e now n differ next s = decided-at 3 e ∙ rw (ne-eqb seenNow seen (λ z. differ (n ∙ z))) (ap (λ st. Quiet (with-status st r)) (sym s))
+        at-lost e now n differ next s = decided-at 3 e ∙ rw (ne-eqb seenNow seen (λ z. differ (n ∙ z)), loss-false (kindOf row) seen ra t) (ap (λ st. Quiet (with-status st r)) (sym s))
 
         pub at-A5 : number ≡ 4 → (next : Status) → next ≡ Busy A6 seen ra ta answer → u ≡ storing row (with-stored next answer r) seen ra ta answer
         unfolding decide
@@ -495,7 +498,7 @@ module _ {rows : List Row} {P : ℕ} {from : Standing} {bytes words₀ log₀ an
 
         pub at-V4 : number ≡ 9 → (next : Status) → next ≡ Busy V5 seen ra ta answer → u ≡ Quiet (with-stored next (Is True) r)
         unfolding decide
-        at-V4 e next s = decided-at 9 e ∙ ap (λ st. Quiet (with-stored st (Is True) r)) (sym s)
+        at-V4 e next s = decided-at 9 e ∙ ap₂ (λ st a. Quiet (with-stored st (Is a) r)) (sym s) (says-true (kindOf row) (row .old))
 
         -- A6, V5 and V6
         pub at-reply : number ≢ 0 → number ≢ 1 → number ≢ 2 → number ≢ 3 → number ≢ 4 → number ≢ 6 → number ≢ 7 → number ≢ 8 → number ≢ 9 → (said : Maybe) → said ≡ replyAt number answer (r .stored)

@@ -13,7 +13,7 @@ use lib.Seq.{getD-set-same, getD-set-other, set-out}
 use borrow.Author.Tests.{ltb-true, ltb-false, eqb-true, eqb-false}
 use Rattle.runfile.specs.declared.Row.{Row}
 use Rattle.runfile.specs.Actions.{Action, step as steps, crash as crashes, wake as wakes, crashAll as crashesAll, none as idles, action, named}
-use Rattle.runfile.specs.Operations.{rowNumbered, first, count, reads, newOf}
+use Rattle.runfile.specs.Operations.{rowNumbered, first, count}
 use Rattle.runfile.specs.Shares.{last-fits}
 use Rattle.rows.specs.declared.Entry.{Entry}
 use Rattle.machine.specs.declared.Process.{Process}
@@ -27,9 +27,10 @@ use Rattle.machine.specs.declared.Opened.the-variants.{Closed, Open}
 use Rattle.machine.specs.declared.Status.{Status}
 use Rattle.machine.specs.declared.Status.the-variants.{Down, Idle, N2, N3, Busy}
 use Rattle.machine.specs.Records.{fresh, with-status, with-stored, with-checkpoint, Announcing, started, crashed, waked, wokenUp, rowOpen, WorkOpen}
-use Rattle.machine.specs.Turn.{Still, Quiet, Swaps, Logs, Loses}
-use Rattle.word.specs.Word.{value, valueIn, swapped}
-use Rattle.machine.specs.Steps.{afterRead, tried, storing, decide, atWork, stepTurn}
+use Rattle.machine.specs.Turn.{Still, Quiet, Logs, Loses}
+use Rattle.word.specs.Word.{value}
+use Rattle.machine.specs.Steps.{storing, decide, atWork, stepTurn}
+use Rattle.machine.specs.KindLaws.{either, read-leads, tried-leads}
 use Rattle.machine.specs.Machine.{State, processOf, turn, apply, applied, procAt, act, step, after, begin}
 
 pub after-join : (rows : List Row) (t : ℕ) (a b : List ℕ) (s : State) → after rows t (a ++ b) s ≡ after rows (t + length a) b (after rows t a s)
@@ -47,32 +48,16 @@ pub data Goes (r : Process) : Process → Type 0 where
   on : {next : Process} → next .opened ≡ r .opened → next .begun ≡ r .begun → (Announcing (next .status) → ⊥) → Goes r next
   ends : {next : Process} → next .opened ≡ Closed → next .status ≡ Idle → next .begun ≡ r .begun → Goes r next
 
-not-announcing : (row : Row) (now t : ℕ) → Announcing (afterRead row now t) → ⊥
-not-announcing row now t = go (reads row) (eqb (valueIn 16 now) (row .old))
-  where
-    go : (c d : Bool) → Announcing (cond c (Busy A5 now t 0 (Is (Value (valueIn 16 now)))) (cond d (Busy A2 now t 0 None) (Busy A5 now t 0 (Is False)))) → ⊥
-    go true d x = x
-    go false true x = x
-    go false false x = x
-
 pub goes : (row : Row) (p t now : ℕ) (r : Process) (stage : Stage) (seen readAt triedAt : ℕ) (answer : Maybe) → Goes r (processOf r (decide row p t now r stage seen readAt triedAt answer))
-unfolding decide tried storing
-goes row p t now r A1 seen readAt triedAt answer = on refl refl (not-announcing row now t)
+unfolding decide storing
+goes row p t now r A1 seen readAt triedAt answer = read-leads (λ st. Goes r (with-status st r)) row now t (on refl refl (λ x. x)) (λ a. on refl refl (λ x. x))
 goes row p t now r A2 seen readAt triedAt answer = on refl refl (λ x. x)
 goes row p t now r A3 seen readAt triedAt answer = on refl refl (λ x. x)
-goes row p t now r A4 seen readAt triedAt answer = go (eqb now seen)
-  where
-    go : (c : Bool) → Goes r (processOf r (cond c (Swaps (with-status (Busy A5 seen readAt t (Is True)) r) (swapped p (newOf row (value seen)) seen)) (Quiet (with-status (Busy A5 seen readAt t (Is False)) r))))
-    go true = on refl refl (λ x. x)
-    go false = on refl refl (λ x. x)
+goes row p t now r A4 seen readAt triedAt answer = tried-leads (λ u. Goes r (processOf r u)) p t row now r seen readAt (λ x. on refl refl (λ x. x)) (on refl refl (λ x. x))
 goes row p t now r A5 seen readAt triedAt None = on refl refl (λ x. x)
 goes row p t now r A5 seen readAt triedAt (Is True) = on refl refl (λ x. x)
 goes row p t now r A5 seen readAt triedAt (Is (Value v)) = on refl refl (λ x. x)
-goes row p t now r A5 seen readAt triedAt (Is False) = go (eqb (value seen) (row .old))
-  where
-    go : (c : Bool) → Goes r (processOf r (cond c (Loses (with-stored (Busy A6 seen readAt triedAt (Is False)) (Is False) r) readAt triedAt) (Logs (with-stored (Busy A6 seen readAt triedAt (Is False)) (Is False) r) readAt False)))
-    go true = on refl refl (λ x. x)
-    go false = on refl refl (λ x. x)
+goes row p t now r A5 seen readAt triedAt (Is False) = either (λ u. Goes r (processOf r u)) (eqb (value seen) (row .old)) (Loses _ readAt triedAt) (Logs _ readAt False) (on refl refl (λ x. x)) (on refl refl (λ x. x))
 goes row p t now r A6 seen readAt triedAt answer = ends refl refl refl
 goes row p t now r V1 seen readAt triedAt answer = on refl refl (λ x. x)
 goes row p t now r V2 seen readAt triedAt answer = on refl refl (λ x. x)

@@ -13,7 +13,7 @@ use lib.Seq.{getD-set-same}
 use borrow.Author.Tests.{eqb-true, eqb-false, lt-ltb}
 use Rattle.runfile.specs.declared.Row.{Row}
 use Rattle.runfile.specs.Actions.{Action, step as steps, crash as crashes, wake as wakes, crashAll as crashesAll, none as idles, action, named}
-use Rattle.runfile.specs.Operations.{rowNumbered, first, count, reads, newOf}
+use Rattle.runfile.specs.Operations.{rowNumbered, first, count}
 use Rattle.rows.specs.declared.Entry.{Entry}
 use Rattle.machine.specs.declared.Process.{Process}
 use Rattle.machine.specs.declared.Stage.{Stage}
@@ -24,12 +24,13 @@ use Rattle.machine.specs.declared.Maybe.the-variants.{None, Is}
 use Rattle.machine.specs.declared.Opened.the-variants.{Closed, Open}
 use Rattle.machine.specs.declared.Status.{Status}
 use Rattle.machine.specs.declared.Status.the-variants.{Down, Idle, N2, N3, Busy}
-use Rattle.machine.specs.Turn.{Quiet, Swaps, Logs, Loses}
-use Rattle.word.specs.Word.{value, bit, swapped, valueIn, bitIn, swappedIn, bitOf, turnOf, flipsIn}
+use Rattle.machine.specs.Turn.{Logs, Loses}
+use Rattle.word.specs.Word.{value, bit, valueIn, bitIn, swappedIn, bitOf, turnOf, flipsIn}
 use Rattle.machine.specs.Records.{fresh, with-status, closed, wokenUp}
 use Rattle.machine.specs.Steps.{recovered, sameBit, tried, storing, decide, stepTurn, working}
 use Rattle.machine.specs.Machine.{State, processOf, turn, apply, applied, procAt, act, step, after, begin}
 use Rattle.machine.specs.Laws.{after-join, after-snoc}
+use Rattle.machine.specs.KindLaws.{either, read-leads, tried-leads}
 use Rattle.machine.specs.OneByte.{others, wake-awake, no-action}
 
 -- "0 step, 1 crash, 2 wake, 15 crash of all": does an action that names process q make a step of p; does it crash p
@@ -113,11 +114,6 @@ data Pending (all n begun : ℕ) (r : Process) : Type 0 where
 abbrev Due : (all n begun : ℕ) → Process → Type 0
 Due all n begun r = Ended begun r ⊎ Pending all n begun r
 
--- what holds of both outcomes of a test
-either : {A : Type 0} (Q : A → Type 0) (c : Bool) (x y : A) → Q x → Q y → Q (cond c x y)
-either Q true x y a b = a
-either Q false x y a b = b
-
 -- a count that comes to 0 has counted nothing
 none-more : (c : Bool) {n : ℕ} → cond c (suc n) n ≡ 0 → (c ≡ false) × (n ≡ 0)
 none-more true e = absurd (omega arith)
@@ -145,16 +141,11 @@ module _ (row : Row) (p t now : ℕ) (r : Process) (all n begun k : ℕ) (o : r 
 
   -- a stage leads to one with fewer steps to go, by whichever branch
   nearer : (stage : Stage) (seen readAt triedAt : ℕ) (answer : Maybe) → further stage ≤ n → Nearer (processOf r (decide row p t now r stage seen readAt triedAt answer))
-  unfolding decide tried further
-  nearer A1 seen readAt triedAt answer m = on _ (go (reads row) (eqb (value now) (row .old))) refl refl
-    where
-      go : (c d : Bool) → Working n (cond c (Busy A5 now t 0 (Is (Value (value now)))) (cond d (Busy A2 now t 0 None) (Busy A5 now t 0 (Is False))))
-      go true d = omega arith
-      go false true = omega arith
-      go false false = omega arith
+  unfolding decide further
+  nearer A1 seen readAt triedAt answer m = on _ (read-leads (Working n) row now t (omega arith) (λ a. omega arith)) refl refl
   nearer A2 seen readAt triedAt answer m = on _ (omega arith) refl refl
   nearer A3 seen readAt triedAt answer m = on _ (omega arith) refl refl
-  nearer A4 seen readAt triedAt answer m = either (λ u. Nearer (processOf r u)) (eqb now seen) (Swaps (with-status (Busy A5 seen readAt t (Is True)) r) (swapped p (newOf row (value seen)) seen)) (Quiet (with-status (Busy A5 seen readAt t (Is False)) r)) (on _ (omega arith) refl refl) (on _ (omega arith) refl refl)
+  nearer A4 seen readAt triedAt answer m = tried-leads (λ u. Nearer (processOf r u)) p t row now r seen readAt (λ x. on _ (omega arith) refl refl) (on _ (omega arith) refl refl)
   nearer A5 seen readAt triedAt answer m = subst Nearer (sym (stored _ seen readAt triedAt answer)) (on _ (omega arith) refl refl)
   nearer A6 seen readAt triedAt answer m = closes
   nearer V1 seen readAt triedAt answer m = on _ (go (r .stored)) refl refl

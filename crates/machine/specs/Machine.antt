@@ -8,7 +8,7 @@ use Rattle.runfile.specs.Operations.{rowNumbered, first, count}
 use Rattle.rows.specs.declared.Entry.{Entry}
 use Rattle.rows.specs.Log.{insert, firstSwap}
 use Rattle.machine.specs.declared.Process.{Process}
-use Rattle.machine.specs.declared.Answer.the-variants.{False, True}
+use Rattle.machine.specs.declared.Answer.the-variants.{False}
 use Rattle.machine.specs.declared.Maybe.the-variants.{Is}
 use Rattle.machine.specs.declared.Status.{Status}
 use Rattle.machine.specs.Turn.{Turn, Still, Quiet, Swaps, Logs, Loses, Replies}
@@ -37,7 +37,7 @@ pub record Move : Type 0 where
 abbrev pub processOf : Process → Turn → Process
 processOf r Still = r
 processOf r (Quiet next) = next
-processOf r (Swaps next x) = next
+processOf r (Swaps next x says) = next
 processOf r (Logs next q a) = next
 processOf r (Loses next after otherwise) = next
 processOf r (Replies next said) = next
@@ -47,7 +47,7 @@ processOf r (Replies next said) = next
 abbrev pub effectOf : List Row → List Entry → (p t k w : ℕ) → Turn → Effect
 effectOf rows log p t k w Still = quiet
 effectOf rows log p t k w (Quiet next) = quiet
-effectOf rows log p t k w (Swaps next x) = swaps w x (entry t p k (Is True))
+effectOf rows log p t k w (Swaps next x says) = swaps w x (entry t p k (Is says))
 effectOf rows log p t k w (Logs next q a) = logs (entry q p k (Is a))
 effectOf rows log p t k w (Loses next after otherwise) = logs (entry (firstSwap rows w after otherwise log) p k (Is False))
 effectOf rows log p t k w (Replies next said) = replies (entry t p k said)

@@ -5,13 +5,16 @@ use mathlib.Core.Path.{_≡_, ap}
 use mathlib.Core.Bool.{Bool, true, false, cond, not}
 use lib.Dec.{eqb, ltb}
 use Rattle.runfile.specs.declared.Row.{Row}
-use Rattle.runfile.specs.Operations.{reads, newOf}
+use Rattle.runfile.specs.declared.Kind.{Kind}
+use Rattle.runfile.specs.declared.Kind.the-variants.{Read, Compare}
+use Rattle.runfile.specs.Kinds.{kindOf, newOf}
 use Rattle.word.specs.Word.{value, bit, swapped}
 use Rattle.rows.specs.declared.Entry.{Entry}
 use Rattle.rows.specs.Entries.{Said}
 use Rattle.machine.specs.declared.Process.{Process}
 use Rattle.machine.specs.declared.Stage.{Stage}
 use Rattle.machine.specs.declared.Stage.the-variants.{A1, A2, A3, A4, A5, A6, V1, V2, V3, V4, V5, V6}
+use Rattle.machine.specs.declared.Answer.{Answer}
 use Rattle.machine.specs.declared.Answer.the-variants.{False, True, Value}
 use Rattle.machine.specs.declared.Maybe.{Maybe}
 use Rattle.machine.specs.declared.Maybe.the-variants.{None, Is}
@@ -34,18 +37,29 @@ abbrev pub entry : ℕ → ℕ → ℕ → Maybe → Entry
 entry position process row said = record { position = position; process = process; row = row; verdict = spoken said .verdict; value = spoken said .value }
 
 -- "A1: read the word. A read row, or a value other than old (answer false), goes to A5; otherwise A2."
+abbrev pub readBy : Kind → (old word t : ℕ) → Status
+readBy Read old word t = Busy A5 word t 0 (Is (Value (value word)))
+readBy Compare old word t = cond (eqb (value word) old) (Busy A2 word t 0 None) (Busy A5 word t 0 (Is False))
+
 abbrev pub afterRead : Row → ℕ → ℕ → Status
-afterRead row word t =
-    cond (reads row)
-    (Busy A5 word t 0 (Is (Value (value word))))
-    (cond (eqb (value word) (row .old)) (Busy A2 word t 0 None) (Busy A5 word t 0 (Is False)))
+afterRead row word t = readBy (kindOf row) (row .old) word t
 
 -- "A4: if the whole word, bits included, is still as read, put in new and turn the own flip bit: true. Otherwise false. Then A5."
+-- What a successful swap says, by the value v that it found, and what is done when it is lost, at position t; a read has no A4
+abbrev pub swapSays : Kind → (v : ℕ) → Answer
+swapSays Read v = True
+swapSays Compare v = True
+
+abbrev pub lostBy : Kind → (seen readAt t : ℕ) → Status
+lostBy Read seen readAt t = Busy A5 seen readAt t (Is False)
+lostBy Compare seen readAt t = Busy A5 seen readAt t (Is False)
+
 unfoldable pub tried : ℕ → ℕ → Row → ℕ → Process → ℕ → ℕ → Turn
 tried p t row now r seen readAt =
+    let says = swapSays (kindOf row) (value seen) in
     cond (eqb now seen)
-    (Swaps (with-status (Busy A5 seen readAt t (Is True)) r) (swapped p (newOf row (value seen)) seen))
-    (Quiet (with-status (Busy A5 seen readAt t (Is False)) r))
+    (Swaps (with-status (Busy A5 seen readAt t (Is says)) r) (swapped p (newOf row (value seen)) seen) says)
+    (Quiet (with-status (lostBy (kindOf row) seen readAt t) r))
 
 -- "A5: store the answer." "A swap that succeeds enters the log at A4 with its position. Any other answer enters at A5: a read, or a
 -- value that was not old, with the position of its A1; a lost swap (false although the value read was old) with the position of the
@@ -55,6 +69,10 @@ storing row next seen readAt triedAt None = Quiet next
 storing row next seen readAt triedAt (Is True) = Quiet next
 storing row next seen readAt triedAt (Is (Value v)) = Logs next readAt (Value v)
 storing row next seen readAt triedAt (Is False) = cond (eqb (value seen) (row .old)) (Loses next readAt triedAt) (Logs next readAt False)
+
+-- "V4: store true", as its swap said, which found old; no other value is at hand then
+abbrev pub recalled : Row → Answer
+recalled row = swapSays (kindOf row) (row .old)
 
 -- "V1: an answer stored goes to V5, else V2."
 abbrev pub recovered : Maybe → Stage
@@ -76,7 +94,7 @@ decide row p t now r A6 seen readAt triedAt answer = Replies (closed r) answer
 decide row p t now r V1 seen readAt triedAt answer = Quiet (with-status (Busy (recovered (r .stored)) seen readAt triedAt answer) r)
 decide row p t now r V2 seen readAt triedAt answer = Quiet (with-status (Busy (cond (r .checkpoint) V3 V6) seen readAt triedAt answer) r)
 decide row p t now r V3 seen readAt triedAt answer = Quiet (with-status (Busy (cond (sameBit (bit p now) (r .kept)) V4 V6) now readAt triedAt answer) r)
-decide row p t now r V4 seen readAt triedAt answer = Quiet (with-stored (Busy V5 seen readAt triedAt answer) (Is True) r)
+decide row p t now r V4 seen readAt triedAt answer = Quiet (with-stored (Busy V5 seen readAt triedAt answer) (Is (recalled row)) r)
 decide row p t now r V5 seen readAt triedAt answer = Replies (closed r) (r .stored)
 decide row p t now r V6 seen readAt triedAt answer = Replies (closed r) None
 

@@ -9,8 +9,8 @@ pub data Turn : Type 0 where
   Still : Turn
   -- the record alone
   Quiet : Process → Turn
-  -- the word becomes this, and "true" enters the log now
-  Swaps : Process → ℕ → Turn
+  -- the word becomes this, and what the swap says enters the log now
+  Swaps : Process → ℕ → Answer → Turn
   -- an answer enters the log at this position
   Logs : Process → ℕ → Answer → Turn
   -- "false" enters the log at the first swap on the word after the first position; where the log has none, at the second

@@ -6,6 +6,7 @@ use super::Status;
 use super::Work;
 use super::said::entry_of;
 use rows::Sought;
+use runfile::Kind;
 use runfile::Row;
 ghost use mathlib.Core.Path.{_≡_};
 ghost use Prim.Native.Nat.{_+_, _*_, _≤_};
@@ -39,30 +40,35 @@ pub fn store_word(table: &[u8], stride: usize, k: usize, words: &mut [u32], new:
 pub fn after_read(row: Row, word: u32, position: u16) -> Status
     ensures { λ r. ⌜ r ≡ afterRead row word position ⌝ }
 {
-    if row.kind == 0 {
-        return Status::Busy {
-            stage: Stage::A5,
-            word,
-            read_at: position,
-            tried_at: 0,
-            answer: Maybe::Is(Answer::Value(word::value_of(word))),
-        };
-    }
-    if word::value_of(word) == row.old as u32 {
-        return Status::Busy {
-            stage: Stage::A2,
-            word,
-            read_at: position,
-            tried_at: 0,
-            answer: Maybe::None,
-        };
-    }
-    Status::Busy {
-        stage: Stage::A5,
-        word,
-        read_at: position,
-        tried_at: 0,
-        answer: Maybe::Is(Answer::False),
+    let kind = runfile::kind_of(row);
+    match kind {
+        Kind::Read => {
+            Status::Busy {
+                stage: Stage::A5,
+                word,
+                read_at: position,
+                tried_at: 0,
+                answer: Maybe::Is(Answer::Value(word::value_of(word))),
+            }
+        }
+        Kind::Compare => {
+            if word::value_of(word) == row.old as u32 {
+                return Status::Busy {
+                    stage: Stage::A2,
+                    word,
+                    read_at: position,
+                    tried_at: 0,
+                    answer: Maybe::None,
+                };
+            }
+            Status::Busy {
+                stage: Stage::A5,
+                word,
+                read_at: position,
+                tried_at: 0,
+                answer: Maybe::Is(Answer::False),
+            }
+        }
     }
 }
 

@@ -40,7 +40,7 @@ use Rattle.panel.specs.Key.{keyed}
 word-stays : (rows : List Row) (log : List Entry) (p t k w : ℕ) (u : Turn) (words : List ℕ) (j : ℕ) → j ≢ w → getD (wordsAfter (effectOf rows log p t k w u) words) j 0 ≡ getD words j 0
 word-stays rows log p t k w Still words j n = refl
 word-stays rows log p t k w (Quiet next) words j n = refl
-word-stays rows log p t k w (Swaps next x) words j n = getD-set-other words w j x 0 n
+word-stays rows log p t k w (Swaps next x says) words j n = getD-set-other words w j x 0 n
 word-stays rows log p t k w (Logs next q a) words j n = refl
 word-stays rows log p t k w (Loses next after otherwise) words j n = refl
 word-stays rows log p t k w (Replies next said) words j n = refl

@@ -21,7 +21,7 @@ use Rattle.machine.specs.declared.Stage.{Stage}
 use Rattle.machine.specs.declared.Status.{Status}
 use Rattle.machine.specs.declared.Status.the-variants.{Down, Idle, N2, N3, Busy}
 use Rattle.word.specs.Word.{bitOf, turnOf, valueIn, flipsIn, bitIn, swappedIn}
-use Rattle.rows.specs.Entries.{isTrue}
+use Rattle.rows.specs.Entries.{isSwapped}
 use Rattle.rows.specs.Log.{onePast, place, insert, isSwap, firstSwap}
 use Rattle.rows.specs.Buffers.{five, entryAt, infront}
 use Rattle.machine.specs.Records.{fresh}
@@ -153,5 +153,5 @@ pub f-stepped :
     × (ended .words ≡ (9 + 2 * 65536) ∷ [])
     × (ended .log ≡ 10 ∷ 1 ∷ 1 ∷ 1 ∷ 0 ∷ 10 ∷ 0 ∷ 0 ∷ 0 ∷ 0 ∷ replicate 70 99)
     × (ended .answers ≡ 15 ∷ 0 ∷ 0 ∷ 0 ∷ 0 ∷ replicate 75 99)
-unfolding keyed pressed verdictOf judged refusalOf headerIn u16At marked headSize wordSize rowSize newPlace numberAt rowAt badField sameFields badByte firstBadField firstRow firstLaterRow firstByte tableOf rowsFrom anyImpossible impossible misplaced misdone rowNumbered first count stepping stepped stateOf names bitOf turnOf valueIn flipsIn bitIn swappedIn isTrue onePast place insert isSwap firstSwap five entryAt infront spoken tried storing decide stepTurn turn apply applied procAt act step
+unfolding keyed pressed verdictOf judged refusalOf headerIn u16At marked headSize wordSize rowSize newPlace numberAt rowAt badField sameFields badByte firstBadField firstRow firstLaterRow firstByte tableOf rowsFrom anyImpossible impossible misplaced misdone rowNumbered first count stepping stepped stateOf names bitOf turnOf valueIn flipsIn bitIn swappedIn isSwapped onePast place insert isSwap firstSwap five entryAt infront spoken tried storing decide stepTurn turn apply applied procAt act step
 f-stepped = (refl, refl, refl, refl)

@@ -9,9 +9,12 @@ use lib.Dec.{eqb, ltb}
 use lib.ListN.{getD}
 use borrow.Author.Tests.{ltb-true, le-ltb, lt-leb, eq-eqb, ne-eqb}
 use Rattle.runfile.specs.declared.Row.{Row}
-use Rattle.runfile.specs.Operations.{rowNumbered, first, count, reads, newOf}
+use Rattle.runfile.specs.Operations.{rowNumbered, first, count}
+use Rattle.runfile.specs.declared.Kind.{Kind}
+use Rattle.runfile.specs.declared.Kind.the-variants.{Read, Compare}
+use Rattle.runfile.specs.Kinds.{kindOf}
 use Rattle.rows.specs.declared.Entry.{Entry}
-use Rattle.word.specs.Word.{value, valueIn, bit, swapped}
+use Rattle.word.specs.Word.{value, bit}
 use Rattle.machine.specs.declared.Process.{Process}
 use Rattle.machine.specs.declared.Stage.{Stage}
 use Rattle.machine.specs.declared.Stage.the-variants.{A1, A2, A3, A4, A5, A6, V1, V2, V3, V4, V5, V6}
@@ -22,26 +25,27 @@ use Rattle.machine.specs.declared.Opened.{Opened}
 use Rattle.machine.specs.declared.Opened.the-variants.{Closed, Open}
 use Rattle.machine.specs.declared.Status.{Status}
 use Rattle.machine.specs.declared.Status.the-variants.{Down, Idle, N2, N3, Busy}
-use Rattle.machine.specs.Turn.{Still, Quiet, Swaps, Logs, Loses}
+use Rattle.machine.specs.Turn.{Still, Quiet, Logs, Loses}
 use Rattle.machine.specs.Records.{fresh, with-status, with-stored, closed, crashed, waked, wokenUp, started, rowOpen}
-use Rattle.machine.specs.Steps.{decide, tried, storing, atWork, stepTurn, recovered, sameBit, afterRead}
+use Rattle.machine.specs.Steps.{decide, readBy, afterRead, swapSays, tried, recalled, storing, atWork, stepTurn, recovered, sameBit}
+use Rattle.machine.specs.KindLaws.{either, tried-leads}
 use Rattle.machine.specs.Machine.{State, processOf, turn, procAt, step, begin}
 use Rattle.machine.specs.Laws.{fresh-at, closed-open, each-step}
-use Rattle.panel.specs.Possible.{readHas, hasStage, hasAnswer, missing, notLast, openWhile, noneAt, noneLeft, noAnswer, wrongKind, misplaced, misdone, impossible}
+use Rattle.panel.specs.Possible.{readHas, hasStage, canSay, hasAnswer, missing, notLast, openWhile, noneAt, noneLeft, noAnswer, wrongKind, misplaced, misdone, impossible}
 
 -- of a process whose rows begin at row `first`: row k is the last of the `begun` that it has begun, and what is kept is of its kind
 pub record Last (rows : List Row) (first begun : ℕ) (stored : Maybe) (checkpoint : Bool) (k : ℕ) : Type 0 where
   pub last : k + 1 ≡ first + begun
   pub some : 1 ≤ begun
-  pub kind : hasAnswer (reads (rowNumbered rows k)) stored ≡ true
-  pub compares : reads (rowNumbered rows k) ≡ true → checkpoint ≡ false
+  pub kind : hasAnswer (kindOf (rowNumbered rows k)) stored ≡ true
+  pub unchecked : hasStage (kindOf (rowNumbered rows k)) V3 ≡ false → checkpoint ≡ false
 
 -- in the midst of work: a row is open, whose kind has the stage and the answer; and where an answer is needed there is one
 pub record Works (rows : List Row) (opened : Opened) (stored : Maybe) (stage : Stage) (answer : Maybe) : Type 0 where
   pub row : ℕ
   pub opens : opened ≡ Open row
-  pub has-stage : hasStage (reads (rowNumbered rows row)) stage ≡ true
-  pub has-answer : hasAnswer (reads (rowNumbered rows row)) answer ≡ true
+  pub has-stage : hasStage (kindOf (rowNumbered rows row)) stage ≡ true
+  pub has-answer : hasAnswer (kindOf (rowNumbered rows row)) answer ≡ true
   pub answered : missing stage answer stored ≡ false
 
 -- at each stage: an idle process has no row open; nor has one that announces a row, which is there, and whose first store has cleared the
@@ -58,10 +62,27 @@ pub record Lives (rows : List Row) (p : ℕ) (r : Process) : Type 0 where
   pub opened-last : (k : ℕ) → r .opened ≡ Open k → Last rows (first rows p) (r .begun) (r .stored) (r .checkpoint) k
   pub at : At rows (count rows p) r (r .status)
 
--- the stages that both kinds have
-both : (stage : Stage) → readHas stage ≡ true → (isRead : Bool) → hasStage isRead stage ≡ true
-both stage e true = e
-both stage e false = refl
+-- Of the tables: a stage that a read has, every kind has; a kind that has another stage has all, and can say what its swap says, and false.
+both : (stage : Stage) → readHas stage ≡ true → (kind : Kind) → hasStage kind stage ≡ true
+both stage e Read = e
+both stage e Compare = refl
+
+module _ (kind : Kind) (stage : Stage) (more : readHas stage ≡ false) (has : hasStage kind stage ≡ true) where
+  is-compare : kind ≡ Compare
+  is-compare = go kind has
+    where
+      go : (kind : Kind) → hasStage kind stage ≡ true → kind ≡ Compare
+      go Read h = absurd (true≢false (sym h ∙ more))
+      go Compare h = refl
+
+  has-all : (other : Stage) → hasStage kind other ≡ true
+  has-all other = rw is-compare
+
+  swap-said : (v : ℕ) → canSay kind (swapSays kind v) ≡ true
+  swap-said v = rw is-compare
+
+  loss-said : canSay kind False ≡ true
+  loss-said = rw is-compare
 
 module _ (rows : List Row) (p : ℕ) where
   -- a record whose status alone is another
@@ -74,7 +95,7 @@ module _ (rows : List Row) (p : ℕ) where
     row = rowNumbered rows k
 
     -- at work on that row
-    at-work : (stored : Maybe) (stage : Stage) (answer : Maybe) → hasStage (reads row) stage ≡ true → hasAnswer (reads row) answer ≡ true → missing stage answer stored ≡ false → Works rows (r .opened) stored stage answer
+    at-work : (stored : Maybe) (stage : Stage) (answer : Maybe) → hasStage (kindOf row) stage ≡ true → hasAnswer (kindOf row) answer ≡ true → missing stage answer stored ≡ false → Works rows (r .opened) stored stage answer
     at-work stored stage answer s a m = record { row = k; opens = o; has-stage = s; has-answer = a; answered = m }
 
     kept-last : Last rows (first rows p) (r .begun) (r .stored) (r .checkpoint) k
@@ -84,35 +105,26 @@ module _ (rows : List Row) (p : ℕ) where
     same-row e = let z = sym o ∙ e in cc
 
     lives-read : Lives rows p (with-status (afterRead row now t) r)
-    lives-read = go (reads row) refl (eqb (valueIn 16 now) (row .old))
+    lives-read = go (kindOf row) refl
       where
-        go : (c : Bool) → reads row ≡ c → (d : Bool) → Lives rows p (with-status (cond c (Busy A5 now t 0 (Is (Value (valueIn 16 now)))) (cond d (Busy A2 now t 0 None) (Busy A5 now t 0 (Is False)))) r)
-        go true q d = go-on r _ h (at-work (r .stored) A5 (Is (Value (valueIn 16 now))) (rw q) (rw q) refl)
-        go false q true = go-on r _ h (at-work (r .stored) A2 None (rw q) refl refl)
-        go false q false = go-on r _ h (at-work (r .stored) A5 (Is False) (rw q) (rw q) refl)
+        go : (kind : Kind) → kindOf row ≡ kind → Lives rows p (with-status (readBy kind (row .old) now t) r)
+        go Read q = go-on r _ h (at-work (r .stored) A5 (Is (Value (value now))) (rw q) (rw q) refl)
+        go Compare q =
+            either (λ st. Lives rows p (with-status st r)) (eqb (value now) (row .old)) (Busy A2 now t 0 None) (Busy A5 now t 0 (Is False))
+            (go-on r _ h (at-work (r .stored) A2 None (rw q) refl refl)) (go-on r _ h (at-work (r .stored) A5 (Is False) (rw q) (rw q) refl))
 
-    -- a compare's row, since a read has no such stage
-    compare-row : (stage : Stage) → hasStage true stage ≡ false → hasStage (reads row) stage ≡ true → reads row ≡ false
-    compare-row stage n s = go (reads row) refl
-      where
-        go : (c : Bool) → reads row ≡ c → reads row ≡ false
-        go true q = absurd (true≢false (sym (subst (λ c. hasStage c stage ≡ true) q s) ∙ n))
-        go false q = q
-
-    lives-tried : (seen readAt : ℕ) → reads row ≡ false → Lives rows p (processOf r (tried p t row now r seen readAt))
-    unfolding tried
-    lives-tried seen readAt q = go (eqb now seen)
-      where
-        go : (c : Bool) → Lives rows p (processOf r (cond c (Swaps (with-status (Busy A5 seen readAt t (Is True)) r) (swapped p (newOf row (value seen)) seen)) (Quiet (with-status (Busy A5 seen readAt t (Is False)) r))))
-        go true = go-on r _ h (at-work (r .stored) A5 (Is True) (rw q) (rw q) refl)
-        go false = go-on r _ h (at-work (r .stored) A5 (Is False) (rw q) (rw q) refl)
+    lives-tried : (seen readAt : ℕ) → hasStage (kindOf row) A4 ≡ true → Lives rows p (processOf r (tried p t row now r seen readAt))
+    lives-tried seen readAt s =
+        tried-leads (λ u. Lives rows p (processOf r u)) p t row now r seen readAt
+        (λ x. go-on r _ h (at-work (r .stored) A5 (Is (swapSays (kindOf row) (value seen))) (both A5 refl (kindOf row)) (swap-said (kindOf row) A4 refl s (value seen)) refl))
+        (go-on r _ h (at-work (r .stored) A5 (Is False) (both A5 refl (kindOf row)) (loss-said (kindOf row) A4 refl s) refl))
 
     -- an answer of the row's kind is stored, at a stage of that kind
-    stores : (stage : Stage) (seen readAt triedAt : ℕ) (answer stored : Maybe) → hasStage (reads row) stage ≡ true → hasAnswer (reads row) answer ≡ true → missing stage answer stored ≡ false → hasAnswer (reads row) stored ≡ true
+    stores : (stage : Stage) (seen readAt triedAt : ℕ) (answer stored : Maybe) → hasStage (kindOf row) stage ≡ true → hasAnswer (kindOf row) answer ≡ true → missing stage answer stored ≡ false → hasAnswer (kindOf row) stored ≡ true
         → Lives rows p (with-stored (Busy stage seen readAt triedAt answer) stored r)
     stores stage seen readAt triedAt answer stored s a m k-ok = record {
       few = h .few;
-      opened-last = λ j e. subst (Last rows (first rows p) (r .begun) stored (r .checkpoint)) (same-row e) (record { last = kept-last .last; some = kept-last .some; kind = k-ok; compares = kept-last .compares });
+      opened-last = λ j e. subst (Last rows (first rows p) (r .begun) stored (r .checkpoint)) (same-row e) (record { last = kept-last .last; some = kept-last .some; kind = k-ok; unchecked = kept-last .unchecked });
       at = at-work stored stage answer s a m;
     }
 
@@ -131,40 +143,40 @@ module _ (rows : List Row) (p : ℕ) where
     ends : Lives rows p (closed r)
     ends = record { few = h .few; opened-last = λ j e. closed-open e; at = refl }
 
-    lives-recovered : (stored : Maybe) → r .stored ≡ stored → (seen readAt triedAt : ℕ) (answer : Maybe) → hasAnswer (reads row) answer ≡ true → Lives rows p (with-status (Busy (recovered stored) seen readAt triedAt answer) r)
-    lives-recovered None q seen readAt triedAt answer a = go-on r _ h (at-work (r .stored) V2 answer (both V2 refl (reads row)) a refl)
-    lives-recovered (Is x) q seen readAt triedAt answer a = go-on r _ h (at-work (r .stored) V5 answer (both V5 refl (reads row)) a (rw q refl))
+    lives-recovered : (stored : Maybe) → r .stored ≡ stored → (seen readAt triedAt : ℕ) (answer : Maybe) → hasAnswer (kindOf row) answer ≡ true → Lives rows p (with-status (Busy (recovered stored) seen readAt triedAt answer) r)
+    lives-recovered None q seen readAt triedAt answer a = go-on r _ h (at-work (r .stored) V2 answer (both V2 refl (kindOf row)) a refl)
+    lives-recovered (Is x) q seen readAt triedAt answer a = go-on r _ h (at-work (r .stored) V5 answer (both V5 refl (kindOf row)) a (rw q refl))
 
-    lives-checked : (checkpoint : Bool) → r .checkpoint ≡ checkpoint → (seen readAt triedAt : ℕ) (answer : Maybe) → hasAnswer (reads row) answer ≡ true → Lives rows p (with-status (Busy (cond checkpoint V3 V6) seen readAt triedAt answer) r)
-    lives-checked true q seen readAt triedAt answer a = go-on r _ h (at-work (r .stored) V3 answer (go (reads row) refl) a refl)
+    lives-checked : (checkpoint : Bool) → r .checkpoint ≡ checkpoint → (seen readAt triedAt : ℕ) (answer : Maybe) → hasAnswer (kindOf row) answer ≡ true → Lives rows p (with-status (Busy (cond checkpoint V3 V6) seen readAt triedAt answer) r)
+    lives-checked true q seen readAt triedAt answer a = go-on r _ h (at-work (r .stored) V3 answer (go (hasStage (kindOf row) V3) refl) a refl)
       where
-        go : (c : Bool) → reads row ≡ c → hasStage c V3 ≡ true
-        go true e = absurd (true≢false (sym q ∙ kept-last .compares e))
-        go false e = refl
-    lives-checked false q seen readAt triedAt answer a = go-on r _ h (at-work (r .stored) V6 answer (both V6 refl (reads row)) a refl)
+        go : (c : Bool) → hasStage (kindOf row) V3 ≡ c → hasStage (kindOf row) V3 ≡ true
+        go true e = e
+        go false e = absurd (true≢false (sym q ∙ kept-last .unchecked e))
+    lives-checked false q seen readAt triedAt answer a = go-on r _ h (at-work (r .stored) V6 answer (both V6 refl (kindOf row)) a refl)
 
-    lives-compared : (c : Bool) (readAt triedAt : ℕ) (answer : Maybe) → reads row ≡ false → hasAnswer (reads row) answer ≡ true → Lives rows p (with-status (Busy (cond c V4 V6) now readAt triedAt answer) r)
-    lives-compared true readAt triedAt answer q a = go-on r _ h (at-work (r .stored) V4 answer (rw q) a refl)
-    lives-compared false readAt triedAt answer q a = go-on r _ h (at-work (r .stored) V6 answer (rw q) a refl)
+    lives-compared : (c : Bool) (readAt triedAt : ℕ) (answer : Maybe) → hasStage (kindOf row) V3 ≡ true → hasAnswer (kindOf row) answer ≡ true → Lives rows p (with-status (Busy (cond c V4 V6) now readAt triedAt answer) r)
+    lives-compared true readAt triedAt answer s a = go-on r _ h (at-work (r .stored) V4 answer (has-all (kindOf row) V3 refl s V4) a refl)
+    lives-compared false readAt triedAt answer s a = go-on r _ h (at-work (r .stored) V6 answer (both V6 refl (kindOf row)) a refl)
 
-    lives-decide : (stage : Stage) (seen readAt triedAt : ℕ) (answer : Maybe) → hasStage (reads row) stage ≡ true → hasAnswer (reads row) answer ≡ true → missing stage answer (r .stored) ≡ false
+    lives-decide : (stage : Stage) (seen readAt triedAt : ℕ) (answer : Maybe) → hasStage (kindOf row) stage ≡ true → hasAnswer (kindOf row) answer ≡ true → missing stage answer (r .stored) ≡ false
         → Lives rows p (processOf r (decide row p t now r stage seen readAt triedAt answer))
     unfolding decide
     lives-decide A1 seen readAt triedAt answer s a m = lives-read
-    lives-decide A2 seen readAt triedAt answer s a m = record { few = h .few; opened-last = h .opened-last; at = at-work (r .stored) A3 answer (rw (compare-row A2 refl s)) a refl }
+    lives-decide A2 seen readAt triedAt answer s a m = record { few = h .few; opened-last = h .opened-last; at = at-work (r .stored) A3 answer (has-all (kindOf row) A2 refl s A3) a refl }
     lives-decide A3 seen readAt triedAt answer s a m = record {
       few = h .few;
-      opened-last = λ j e. subst (Last rows (first rows p) (r .begun) (r .stored) true) (same-row e) (record { last = kept-last .last; some = kept-last .some; kind = kept-last .kind; compares = λ q. absurd (true≢false (sym q ∙ compare-row A3 refl s)) });
-      at = at-work (r .stored) A4 answer (rw (compare-row A3 refl s)) a refl;
+      opened-last = λ j e. subst (Last rows (first rows p) (r .begun) (r .stored) true) (same-row e) (record { last = kept-last .last; some = kept-last .some; kind = kept-last .kind; unchecked = λ q. absurd (true≢false (sym (has-all (kindOf row) A3 refl s V3) ∙ q)) });
+      at = at-work (r .stored) A4 answer (has-all (kindOf row) A3 refl s A4) a refl;
     }
-    lives-decide A4 seen readAt triedAt answer s a m = lives-tried seen readAt (compare-row A4 refl s)
+    lives-decide A4 seen readAt triedAt answer s a m = lives-tried seen readAt s
     lives-decide A5 seen readAt triedAt answer s a m =
-        subst (Lives rows p) (sym (next-is _ seen readAt triedAt answer)) (stores A6 seen readAt triedAt answer answer (both A6 refl (reads row)) a m a)
+        subst (Lives rows p) (sym (next-is _ seen readAt triedAt answer)) (stores A6 seen readAt triedAt answer answer (both A6 refl (kindOf row)) a m a)
     lives-decide A6 seen readAt triedAt answer s a m = ends
     lives-decide V1 seen readAt triedAt answer s a m = lives-recovered (r .stored) refl seen readAt triedAt answer a
     lives-decide V2 seen readAt triedAt answer s a m = lives-checked (r .checkpoint) refl seen readAt triedAt answer a
-    lives-decide V3 seen readAt triedAt answer s a m = lives-compared (sameBit (bit p now) (r .kept)) readAt triedAt answer (compare-row V3 refl s) a
-    lives-decide V4 seen readAt triedAt answer s a m = stores V5 seen readAt triedAt answer (Is True) (both V5 refl (reads row)) a refl (rw (compare-row V4 refl s))
+    lives-decide V3 seen readAt triedAt answer s a m = lives-compared (sameBit (bit p now) (r .kept)) readAt triedAt answer s a
+    lives-decide V4 seen readAt triedAt answer s a m = stores V5 seen readAt triedAt answer (Is (recalled row)) (both V5 refl (kindOf row)) a refl (swap-said (kindOf row) V4 refl s (row .old))
     lives-decide V5 seen readAt triedAt answer s a m = ends
     lives-decide V6 seen readAt triedAt answer s a m = ends
 
@@ -182,8 +194,8 @@ module _ (rows : List Row) (p : ℕ) where
       opens a = record {
         few = a .1;
         opened-last = λ j e. subst (Last rows (first rows p) (suc (r .begun)) (r .stored) (r .checkpoint)) (same e)
-            (record { last = omega arith; some = omega arith; kind = rw (a .2) refl; compares = λ _. a .3 });
-        at = record { row = first rows p + r .begun; opens = refl; has-stage = both A1 refl (reads (rowNumbered rows (first rows p + r .begun))); has-answer = refl; answered = refl };
+            (record { last = omega arith; some = omega arith; kind = rw (a .2) refl; unchecked = λ _. a .3 });
+        at = record { row = first rows p + r .begun; opens = refl; has-stage = both A1 refl (kindOf (rowNumbered rows (first rows p + r .begun))); has-answer = refl; answered = refl };
       }
         where
           same : {j : ℕ} → Open (first rows p + r .begun) ≡ Open j → first rows p + r .begun ≡ j
@@ -195,8 +207,8 @@ module _ (rows : List Row) (p : ℕ) where
       work (Open k) q stage seen readAt triedAt answer w =
           let e : w .row ≡ k = (let z = sym (w .opens) ∙ q in cc) in
           lives-decide t _ r h k q stage seen readAt triedAt answer
-          (subst (λ k. hasStage (reads (rowNumbered rows k)) stage ≡ true) e (w .has-stage))
-          (subst (λ k. hasAnswer (reads (rowNumbered rows k)) answer ≡ true) e (w .has-answer))
+          (subst (λ k. hasStage (kindOf (rowNumbered rows k)) stage ≡ true) e (w .has-stage))
+          (subst (λ k. hasAnswer (kindOf (rowNumbered rows k)) answer ≡ true) e (w .has-answer))
           (w .answered)
 
       go : (status : Status) → r .status ≡ status → At rows (count rows p) r status
@@ -215,7 +227,7 @@ module _ (rows : List Row) (p : ℕ) where
     where
       go : (o : Opened) → r .opened ≡ o → At rows (count rows p) (with-status (wokenUp o) r) (wokenUp o)
       go Closed q = q
-      go (Open k) q = record { row = k; opens = q; has-stage = both V1 refl (reads (rowNumbered rows k)); has-answer = refl; answered = refl }
+      go (Open k) q = record { row = k; opens = q; has-stage = both V1 refl (kindOf (rowNumbered rows k)); has-answer = refl; answered = refl }
   lives-waked r Idle h = h
   lives-waked r N2 h = h
   lives-waked r N3 h = h
@@ -253,7 +265,7 @@ module _ (rows : List Row) (p : ℕ) (r : Process) (h : Lives rows p r) where
   not-misplaced = rw (le-ltb (count rows p) (r .begun) (h .few), last-begun (r .opened) refl) (placed (r .status) (h .at))
 
   -- of the row that is open the kind is asked; with none open there is nothing that could be wrong
-  rightly : (o : Opened) → r .opened ≡ o → (status : Status) → At rows (count rows p) r status → (noAnswer (r .stored) status || wrongKind (reads (rowNumbered rows (rowOpen o))) o (r .stored) status) ≡ false
+  rightly : (o : Opened) → r .opened ≡ o → (status : Status) → At rows (count rows p) r status → (noAnswer (r .stored) status || wrongKind (kindOf (rowNumbered rows (rowOpen o))) o (r .stored) status) ≡ false
   rightly Closed q Down a = refl
   rightly Closed q Idle a = refl
   rightly Closed q N2 a = refl
@@ -268,8 +280,8 @@ module _ (rows : List Row) (p : ℕ) (r : Process) (h : Lives rows p r) where
       rw (
         w .answered,
         h .opened-last k q .kind,
-        subst (λ k. hasStage (reads (rowNumbered rows k)) stage ≡ true) e (w .has-stage),
-        subst (λ k. hasAnswer (reads (rowNumbered rows k)) answer ≡ true) e (w .has-answer),
+        subst (λ k. hasStage (kindOf (rowNumbered rows k)) stage ≡ true) e (w .has-stage),
+        subst (λ k. hasAnswer (kindOf (rowNumbered rows k)) answer ≡ true) e (w .has-answer),
       ) refl
 
   pub lives-possible : impossible rows p r ≡ false

@@ -27,7 +27,7 @@ words-longer : (rows : List Row) (log : List Entry) (p t k w : ℕ) (u : Turn) (
     → wordsAfter (effectOf rows log p t k w u) (words ++ more) ≡ wordsAfter (effectOf rows log p t k w u) words ++ more
 words-longer rows log p t k w Still words more h = refl
 words-longer rows log p t k w (Quiet next) words more h = refl
-words-longer rows log p t k w (Swaps next x) words more h = set-append-left words more w x h
+words-longer rows log p t k w (Swaps next x says) words more h = set-append-left words more w x h
 words-longer rows log p t k w (Logs next q a) words more h = refl
 words-longer rows log p t k w (Loses next after otherwise) words more h = refl
 words-longer rows log p t k w (Replies next said) words more h = refl

@@ -7,10 +7,14 @@ use mathlib.Core.List.{List}
 use lib.Dec.{eqb, leb, ltb}
 use lib.ListN.{getD}
 use Rattle.runfile.specs.declared.Row.{Row}
-use Rattle.runfile.specs.Operations.{rowNumbered, first, count, reads}
+use Rattle.runfile.specs.Operations.{rowNumbered, first, count}
+use Rattle.runfile.specs.declared.Kind.{Kind}
+use Rattle.runfile.specs.declared.Kind.the-variants.{Read, Compare}
+use Rattle.runfile.specs.Kinds.{kindOf}
 use Rattle.machine.specs.declared.Process.{Process}
 use Rattle.machine.specs.declared.Stage.{Stage}
 use Rattle.machine.specs.declared.Stage.the-variants.{A1, A2, A3, A4, A5, A6, V1, V2, V3, V4, V5, V6}
+use Rattle.machine.specs.declared.Answer.{Answer}
 use Rattle.machine.specs.declared.Answer.the-variants.{False, True, Value}
 use Rattle.machine.specs.declared.Maybe.{Maybe}
 use Rattle.machine.specs.declared.Maybe.the-variants.{None, Is}
@@ -20,7 +24,7 @@ use Rattle.machine.specs.declared.Status.{Status}
 use Rattle.machine.specs.declared.Status.the-variants.{Down, Idle, N2, N3, Busy}
 use Rattle.machine.specs.Records.{nobody, rowOpen}
 
--- The stages and answers of the two kinds. A read goes from A1 to A5 and has no checkpoint, so that its recovery goes from V2 to V6; a compare
+-- The stages and answers of each kind. A read goes from A1 to A5 and has no checkpoint, so that its recovery goes from V2 to V6; a compare
 -- has every stage. A read answers with a value, a compare with false or true.
 abbrev pub readHas : Stage → Bool
 readHas A1 = true
@@ -36,15 +40,27 @@ readHas V4 = false
 readHas V5 = true
 readHas V6 = true
 
-abbrev pub hasStage : Bool → Stage → Bool
-hasStage true stage = readHas stage
-hasStage false stage = true
+abbrev pub hasStage : Kind → Stage → Bool
+hasStage Read stage = readHas stage
+hasStage Compare stage = true
 
-abbrev pub hasAnswer : Bool → Maybe → Bool
-hasAnswer isRead None = true
-hasAnswer isRead (Is False) = not isRead
-hasAnswer isRead (Is True) = not isRead
-hasAnswer isRead (Is (Value v)) = isRead
+abbrev pub readSays : Answer → Bool
+readSays False = false
+readSays True = false
+readSays (Value v) = true
+
+abbrev pub compareSays : Answer → Bool
+compareSays False = true
+compareSays True = true
+compareSays (Value v) = false
+
+abbrev pub canSay : Kind → Answer → Bool
+canSay Read answer = readSays answer
+canSay Compare answer = compareSays answer
+
+abbrev pub hasAnswer : Kind → Maybe → Bool
+hasAnswer kind None = true
+hasAnswer kind (Is answer) = canSay kind answer
 
 abbrev pub isNone : Maybe → Bool
 isNone None = true
@@ -110,28 +126,28 @@ noAnswer stored N3 = false
 noAnswer stored (Busy stage seen readAt triedAt answer) = missing stage answer stored
 
 -- "a stage or answer its row's kind never has": of the stage and the answer to store, and of the answer stored for the open row
-abbrev pub wrongWork : Bool → Status → Bool
-wrongWork isRead Down = false
-wrongWork isRead Idle = false
-wrongWork isRead N2 = false
-wrongWork isRead N3 = false
-wrongWork isRead (Busy stage seen readAt triedAt answer) = not (hasStage isRead stage) || not (hasAnswer isRead answer)
+abbrev pub wrongWork : Kind → Status → Bool
+wrongWork kind Down = false
+wrongWork kind Idle = false
+wrongWork kind N2 = false
+wrongWork kind N3 = false
+wrongWork kind (Busy stage seen readAt triedAt answer) = not (hasStage kind stage) || not (hasAnswer kind answer)
 
-abbrev pub wrongKind : Bool → Opened → Maybe → Status → Bool
-wrongKind isRead Closed stored status = false
-wrongKind isRead (Open k) stored status = not (hasAnswer isRead stored) || wrongWork isRead status
+abbrev pub wrongKind : Kind → Opened → Maybe → Status → Bool
+wrongKind kind Closed stored status = false
+wrongKind kind (Open k) stored status = not (hasAnswer kind stored) || wrongWork kind status
 
 -- what is wrong with a record by its counts and its open row, and by what it does on it
 unfoldable pub misplaced : (first count : ℕ) → Process → Bool
 misplaced first count r =
     tooMany count (r .begun) || (notLast first (r .begun) (r .opened) || (openWhile (r .opened) (r .status) || (noneAt (r .opened) (r .status) || noneLeft count (r .begun) (r .status))))
 
-unfoldable pub misdone : Bool → Process → Bool
-misdone isRead r = noAnswer (r .stored) (r .status) || wrongKind isRead (r .opened) (r .stored) (r .status)
+unfoldable pub misdone : Kind → Process → Bool
+misdone kind r = noAnswer (r .stored) (r .status) || wrongKind kind (r .opened) (r .stored) (r .status)
 
 -- process p's record
 unfoldable pub impossible : List Row → ℕ → Process → Bool
-impossible rows p r = misplaced (first rows p) (count rows p) r || misdone (reads (rowNumbered rows (rowOpen (r .opened)))) r
+impossible rows p r = misplaced (first rows p) (count rows p) r || misdone (kindOf (rowNumbered rows (rowOpen (r .opened)))) r
 
 -- one of n records, from process p on
 unfoldable pub anyImpossible : List Row → List Process → (p n : ℕ) → Bool

@@ -7,13 +7,15 @@ use machine::Opened;
 use machine::Process;
 use runfile::Checked;
 use runfile::Header;
+use runfile::Kind;
 use runfile::Room;
 ghost use mathlib.Core.Path.{_≡_};
 ghost use mathlib.Core.Bool.{_||_};
 ghost use Prim.Native.Nat.{_+_, _*_, _≤_};
 ghost use lib.ListN.{length};
 ghost use Rattle.runfile.specs.Format.{RowSize};
-ghost use Rattle.runfile.specs.Operations.{rowsFrom, rowNumbered, reads};
+ghost use Rattle.runfile.specs.Operations.{rowsFrom, rowNumbered};
+ghost use Rattle.runfile.specs.Kinds.{kindOf};
 ghost use Rattle.runfile.specs.Lawful.{Lawful};
 ghost use Rattle.runfile.specs.Shares.{Lined};
 ghost use Rattle.machine.specs.Records.{rowOpen};
@@ -30,7 +32,7 @@ fn is_impossible(
     process: Process,
 ) -> bool
     requires { ⌜ RowSize stride × (n * stride ≤ length (now table)) × (first + count ≤ n) ⌝ }
-    ensures { λ r. ⌜ r ≡ (possible.misplaced first count process || possible.misdone (reads (rowNumbered (rowsFrom stride (now (table .entry)) 0 n) (rowOpen (process .opened)))) process) ⌝ }
+    ensures { λ r. ⌜ r ≡ (possible.misplaced first count process || possible.misdone (kindOf (rowNumbered (rowsFrom stride (now (table .entry)) 0 n) (rowOpen (process .opened)))) process) ⌝ }
 {
     if misplaced(first, count, process) {
         return true;
@@ -38,10 +40,10 @@ fn is_impossible(
     let opened = process.opened;
     match opened {
         // With no row open no kind is asked for.
-        Opened::Closed => misdone(false, process),
+        Opened::Closed => misdone(Kind::Read, process),
         Opened::Open(k) => {
             let row = runfile::row_at(table, stride, runfile::index16(k));
-            misdone(row.kind == 0, process)
+            misdone(runfile::kind_of(row), process)
         }
     }
 }

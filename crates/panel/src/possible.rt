@@ -5,6 +5,7 @@ use machine::Opened;
 use machine::Process;
 use machine::Stage;
 use machine::Status;
+use runfile::Kind;
 ghost use mathlib.Core.Path.{_≡_};
 ghost use Prim.Native.Nat.{_+_, _<_};
 ghost use Rattle.panel.specs.Possible as possible;
@@ -29,23 +30,45 @@ fn read_has(stage: Stage) -> bool
     }
 }
 
-fn has_stage(reading: bool, stage: Stage) -> bool
-    ensures { λ r. ⌜ r ≡ possible.hasStage reading stage ⌝ }
+fn has_stage(kind: Kind, stage: Stage) -> bool
+    ensures { λ r. ⌜ r ≡ possible.hasStage kind stage ⌝ }
 {
-    if reading { read_has(stage) } else { true }
+    match kind {
+        Kind::Read => read_has(stage),
+        Kind::Compare => true,
+    }
 }
 
-// A read answers with a value, a compare with false or true.
-fn has_answer(reading: bool, answer: Maybe) -> bool
-    ensures { λ r. ⌜ r ≡ possible.hasAnswer reading answer ⌝ }
+// The answers of a read, and those of a compare.
+fn read_says(answer: Answer) -> bool
+    ensures { λ r. ⌜ r ≡ possible.readSays answer ⌝ }
+{
+    match answer {
+        Answer::False => false,
+        Answer::True => false,
+        Answer::Value(_) => true,
+    }
+}
+
+fn compare_says(answer: Answer) -> bool
+    ensures { λ r. ⌜ r ≡ possible.compareSays answer ⌝ }
+{
+    match answer {
+        Answer::False => true,
+        Answer::True => true,
+        Answer::Value(_) => false,
+    }
+}
+
+fn has_answer(kind: Kind, answer: Maybe) -> bool
+    ensures { λ r. ⌜ r ≡ possible.hasAnswer kind answer ⌝ }
 {
     let Maybe::Is(said) = answer else {
         return true;
     };
-    match said {
-        Answer::False => !reading,
-        Answer::True => !reading,
-        Answer::Value(_) => reading,
+    match kind {
+        Kind::Read => read_says(said),
+        Kind::Compare => compare_says(said),
     }
 }
 
@@ -178,8 +201,8 @@ fn no_answer(stored: Maybe, status: Status) -> bool
 }
 
 // "A stage or answer its row's kind never has": the stage, and the answer to store.
-fn wrong_work(reading: bool, status: Status) -> bool
-    ensures { λ r. ⌜ r ≡ possible.wrongWork reading status ⌝ }
+fn wrong_work(kind: Kind, status: Status) -> bool
+    ensures { λ r. ⌜ r ≡ possible.wrongWork kind status ⌝ }
 {
     match status {
         Status::Down => false,
@@ -193,8 +216,8 @@ fn wrong_work(reading: bool, status: Status) -> bool
             tried_at: _,
             answer,
         } => {
-            if has_stage(reading, stage) {
-                return !has_answer(reading, answer);
+            if has_stage(kind, stage) {
+                return !has_answer(kind, answer);
             }
             true
         }
@@ -202,14 +225,14 @@ fn wrong_work(reading: bool, status: Status) -> bool
 }
 
 // The same, with the answer that is stored for the open row.
-fn wrong_kind(reading: bool, opened: Opened, stored: Maybe, status: Status) -> bool
-    ensures { λ r. ⌜ r ≡ possible.wrongKind reading opened stored status ⌝ }
+fn wrong_kind(kind: Kind, opened: Opened, stored: Maybe, status: Status) -> bool
+    ensures { λ r. ⌜ r ≡ possible.wrongKind kind opened stored status ⌝ }
 {
     match opened {
         Opened::Closed => false,
         Opened::Open(_) => {
-            if has_answer(reading, stored) {
-                return wrong_work(reading, status);
+            if has_answer(kind, stored) {
+                return wrong_work(kind, status);
             }
             true
         }
@@ -239,8 +262,8 @@ pub fn misplaced(first: u16, count: u16, process: Process) -> bool
 }
 
 // What is wrong with it by what it does on a row of this kind.
-pub fn misdone(reading: bool, process: Process) -> bool
-    ensures { λ r. ⌜ r ≡ possible.misdone reading process ⌝ }
+pub fn misdone(kind: Kind, process: Process) -> bool
+    ensures { λ r. ⌜ r ≡ possible.misdone kind process ⌝ }
 {
     let opened = process.opened;
     let status = process.status;
@@ -248,5 +271,5 @@ pub fn misdone(reading: bool, process: Process) -> bool
     if no_answer(stored, status) {
         return true;
     }
-    wrong_kind(reading, opened, stored, status)
+    wrong_kind(kind, opened, stored, status)
 }

@@ -9,14 +9,14 @@ use lib.Dec.{leb}
 use lib.ListN.{take, drop, take-append-drop}
 use borrow.Author.Tests.{le-leb, lt-leb, leb-true, leb-false}
 use Rattle.rows.specs.declared.Entry.{Entry}
-use Rattle.rows.specs.Entries.{said, isTrue}
+use Rattle.rows.specs.Entries.{said, isSwapped}
 use Rattle.rows.specs.Log.{onePast, place, insert}
 use Rattle.replay.specs.Lists.{All, all-left, all-right, all-map, all-put, keep, keep-join, keep-all, keep-none, keep-passes}
 
 -- e may stand before f
 pub record Ordered (e f : Entry) : Type 0 where
   pub le : e .position ≤ f .position
-  pub lt : isTrue (said e) ≡ true → isTrue (said f) ≡ true → e .position < f .position
+  pub lt : isSwapped (said e) ≡ true → isSwapped (said f) ≡ true → e .position < f .position
 
 abbrev pub Sorted : List Entry → Type 0
 Sorted [] = Unit {0}

@@ -6,22 +6,26 @@ use mathlib.Core.List.{List, [], _∷_}
 use lib.Dec.{eqb}
 use lib.ListN.{getD, set}
 use Rattle.runfile.specs.declared.Row.{Row}
-use Rattle.runfile.specs.Operations.{rowNumbered, reads, newOf}
+use Rattle.runfile.specs.declared.Kind.{Kind}
+use Rattle.runfile.specs.declared.Kind.the-variants.{Read, Compare}
+use Rattle.runfile.specs.Operations.{rowNumbered}
+use Rattle.runfile.specs.Kinds.{kindOf, newOf}
 use Rattle.rows.specs.declared.Entry.{Entry}
-use Rattle.rows.specs.Entries.{Said, said, isTrue}
+use Rattle.rows.specs.Entries.{Said, said, isSwapped}
 
--- "Verdicts: 0 false, 1 true, .. 3 value read": what a row answers where its word has the value v
+-- "Verdicts: 0 false, 1 true, .. 3 value read": what a row answers where its word has the value v, by its kind and its old
+abbrev pub answerBy : Kind → (old v : ℕ) → Said
+answerBy Read old v = record { verdict = 3; value = v }
+answerBy Compare old v = cond (eqb v old) (record { verdict = 1; value = 0 }) (record { verdict = 0; value = 0 })
+
 unfoldable pub answerOf : Row → ℕ → Said
-answerOf row v =
-    cond (reads row)
-    (record { verdict = 3; value = v })
-    (cond (eqb v (row .old)) (record { verdict = 1; value = 0 }) (record { verdict = 0; value = 0 }))
+answerOf row v = answerBy (kindOf row) (row .old) v
 
--- the values that it leaves: new is put in exactly where it answers true
+-- the values that it leaves: what a swap puts in is put in exactly where it answers with a successful one
 unfoldable pub leaves : Row → List ℕ → List ℕ
 leaves row values =
     let v = getD values (row .word) 0 in
-    cond (isTrue (answerOf row v)) (set values (row .word) (newOf row v)) values
+    cond (isSwapped (answerOf row v)) (set values (row .word) (newOf row v)) values
 
 -- "carrying out the log in order on plain words gives every answer in the log and every final value"
 abbrev pub Replayed : List Row → List ℕ → List Entry → List ℕ → Type 0

@@ -13,10 +13,13 @@ use borrow.Author.Tests.{eq-eqb, eqb-true, ltb-true, lt-ltb}
 use Rattle.rows.specs.declared.Entry.{Entry}
 use Rattle.runfile.specs.declared.Row.{Row}
 use Rattle.word.specs.Word.{width}
-use Rattle.runfile.specs.Operations.{rowNumbered, names, reads, newOf}
-use Rattle.rows.specs.Entries.{said, isTrue}
+use Rattle.runfile.specs.declared.Kind.{Kind}
+use Rattle.runfile.specs.declared.Kind.the-variants.{Read, Compare}
+use Rattle.runfile.specs.Operations.{rowNumbered, names}
+use Rattle.runfile.specs.Kinds.{kindOf, newOf}
+use Rattle.rows.specs.Entries.{said, isSwapped}
 use Rattle.rows.specs.Log.{isSwap, firstSwap}
-use Rattle.replay.specs.Plain.{answerOf, leaves, Replayed}
+use Rattle.replay.specs.Plain.{answerBy, answerOf, leaves, Replayed}
 use Rattle.replay.specs.Lists.{All, all-left, all-map, all-both, keep, keep-join, keep-keeps, keep-put-no, keep-put-yes, Found, keep-found}
 use Rattle.replay.specs.Logs.{isLate, isEarly, early-test, early-test-no, Ordered, Sorted, sorted-left, sorted-before, sorted-behind, early, late, early-all, early-none, early-low, late-high, early-join, early-late, Put}
 
@@ -24,7 +27,7 @@ use Rattle.replay.specs.Logs.{isLate, isEarly, early-test, early-test-no
 pub record Good (W : ℕ) (row : Row) : Type 0 where
   pub inside : row .word < W
   pub fits : (v : ℕ) → newOf row v < 2 ^ width
-  pub differ : (v : ℕ) → reads row ≡ false → v ≡ row .old → newOf row v ≡ v → ⊥
+  pub differ : (v : ℕ) → isSwapped (answerOf row v) ≡ true → newOf row v ≡ v → ⊥
 
 module _ (rows : List Row) where
   -- the values after an entry, after a log
@@ -32,7 +35,7 @@ module _ (rows : List Row) where
   written e vs = set vs (rowNumbered rows (e .row) .word) (newOf (rowNumbered rows (e .row)) (getD vs (rowNumbered rows (e .row) .word) 0))
 
   unfoldable pub moved : Entry → List ℕ → List ℕ
-  moved e vs = cond (isTrue (said e)) (written e vs) vs
+  moved e vs = cond (isSwapped (said e)) (written e vs) vs
 
   unfoldable pub final : List ℕ → List Entry → List ℕ
   final vs [] = vs
@@ -49,7 +52,7 @@ module _ (rows : List Row) where
   -- a log that is right is replayed: what an entry says it has done is what its row does
   leaves-moved : (e : Entry) (vs : List ℕ) → RightAt vs e → moved e vs ≡ leaves (rowNumbered rows (e .row)) vs
   unfolding moved leaves
-  leaves-moved e vs h = ap (λ d. cond (isTrue d) (written e vs) vs) h
+  leaves-moved e vs h = ap (λ d. cond (isSwapped d) (written e vs) vs) h
 
   pub replayed : (vs : List ℕ) (log : List Entry) (finals : List ℕ) → Right vs log → final vs log ≡ finals → Replayed rows vs log finals
   unfolding final
@@ -75,17 +78,17 @@ module _ (rows : List Row) where
   right-right vs [] b h = h
   right-right vs (e ∷ a) b h = right-right (moved e vs) a b (h .1)
 
-  pub moved-not : (e : Entry) (vs : List ℕ) → isTrue (said e) ≡ false → moved e vs ≡ vs
+  pub moved-not : (e : Entry) (vs : List ℕ) → isSwapped (said e) ≡ false → moved e vs ≡ vs
   unfolding moved
   moved-not e vs h = rw h
 
-  pub moved-true : (e : Entry) (vs : List ℕ) → isTrue (said e) ≡ true → moved e vs ≡ written e vs
+  pub moved-swapped : (e : Entry) (vs : List ℕ) → isSwapped (said e) ≡ true → moved e vs ≡ written e vs
   unfolding moved
-  moved-true e vs h = rw h
+  moved-swapped e vs h = rw h
 
   length-moved : (e : Entry) (vs : List ℕ) → length (moved e vs) ≡ length vs
   unfolding moved
-  length-moved e vs = go (isTrue (said e))
+  length-moved e vs = go (isSwapped (said e))
     where
       go : (c : Bool) → length (cond c (written e vs) vs) ≡ length vs
       go true = length-set vs (rowNumbered rows (e .row) .word) (newOf (rowNumbered rows (e .row)) (getD vs (rowNumbered rows (e .row) .word) 0))
@@ -98,13 +101,13 @@ module _ (rows : List Row) where
 
   -- an entry that is no swap of its word leaves the word's value
   abbrev pub Quiet : ℕ → Entry → Type 0
-  Quiet w e = isTrue (said e) ≡ true → rowNumbered rows (e .row) .word ≡ w → ⊥
+  Quiet w e = isSwapped (said e) ≡ true → rowNumbered rows (e .row) .word ≡ w → ⊥
 
   moved-quiet : (w : ℕ) (e : Entry) (vs : List ℕ) → Quiet w e → getD (moved e vs) w 0 ≡ getD vs w 0
   unfolding moved
-  moved-quiet w e vs h = go (isTrue (said e)) refl
+  moved-quiet w e vs h = go (isSwapped (said e)) refl
     where
-      go : (c : Bool) → isTrue (said e) ≡ c → getD (cond c (written e vs) vs) w 0 ≡ getD vs w 0
+      go : (c : Bool) → isSwapped (said e) ≡ c → getD (cond c (written e vs) vs) w 0 ≡ getD vs w 0
       go true q = getD-set-other vs (rowNumbered rows (e .row) .word) w (newOf (rowNumbered rows (e .row)) (getD vs (rowNumbered rows (e .row) .word) 0)) 0 (λ x. h q (sym x))
       go false q = refl
 
@@ -114,16 +117,16 @@ module _ (rows : List Row) where
   final-quiet w vs (e ∷ l) h = final-quiet w (moved e vs) l (h .1) ∙ moved-quiet w e vs (h .0)
 
   -- one that is no swap put into a log: replay stays right, and comes to the same end
-  pub right-put : (vs : List ℕ) (a b : List Entry) (e : Entry) → isTrue (said e) ≡ false → RightAt (final vs a) e → Right vs (a ++ b) → Right vs (a ++ e ∷ b)
+  pub right-put : (vs : List ℕ) (a b : List Entry) (e : Entry) → isSwapped (said e) ≡ false → RightAt (final vs a) e → Right vs (a ++ b) → Right vs (a ++ e ∷ b)
   right-put vs a b e nt r h =
       right-join vs a (e ∷ b) (right-left vs a b h) (r, rw (moved-not e (final vs a) nt) (right-right vs a b h))
 
-  pub final-put : (vs : List ℕ) (a b : List Entry) (e : Entry) → isTrue (said e) ≡ false → final vs (a ++ e ∷ b) ≡ final vs (a ++ b)
+  pub final-put : (vs : List ℕ) (a b : List Entry) (e : Entry) → isSwapped (said e) ≡ false → final vs (a ++ e ∷ b) ≡ final vs (a ++ b)
   unfolding final
   final-put vs a b e nt = final-join vs a (e ∷ b) ∙ rw (moved-not e (final vs a) nt) (sym (final-join vs a b))
 
   -- the values at time q: after the entries up to q. An entry that is no swap, or one later than q, does not change them
-  pub early-put : (vs : List ℕ) (q : ℕ) {l l′ : List Entry} (e : Entry) → Put e l l′ → isTrue (said e) ≡ false → final vs (early q l′) ≡ final vs (early q l)
+  pub early-put : (vs : List ℕ) (q : ℕ) {l l′ : List Entry} (e : Entry) → Put e l l′ → isSwapped (said e) ≡ false → final vs (early q l′) ≡ final vs (early q l)
   unfolding early
   early-put vs q {l} {l′} e p nt = rw (p .was, p .now) (go (isEarly q e) refl)
     where
@@ -137,17 +140,18 @@ module _ (rows : List Row) where
   unfolding early
   early-put-later q {l} {l′} e p h = rw (p .was, p .now) (keep-put-no (isEarly q) (p .front) (p .back) e (early-test-no q e h))
 
--- a true answer: the row compares, and the value is its old
-pub answer-true : (row : Row) (v : ℕ) → isTrue (answerOf row v) ≡ true → (reads row ≡ false) × (v ≡ row .old)
-unfolding answerOf isTrue
-answer-true row v = go (reads row) refl (eqb v (row .old)) refl
+-- a successful swap: the row compares, and the value is its old
+pub answer-swapped : (row : Row) (v : ℕ) → isSwapped (answerOf row v) ≡ true → (kindOf row ≡ Compare) × (v ≡ row .old)
+unfolding answerOf isSwapped
+answer-swapped row v = go (kindOf row) refl
   where
-    go : (c : Bool) → reads row ≡ c → (d : Bool) → eqb v (row .old) ≡ d
-        → isTrue (cond c (record { verdict = 3; value = v }) (cond d (record { verdict = 1; value = 0 }) (record { verdict = 0; value = 0 }))) ≡ true → (reads row ≡ false) × (v ≡ row .old)
-    go true t true u h = absurd (true≢false (sym h))
-    go true t false u h = absurd (true≢false (sym h))
-    go false t true u h = (t, eqb-true v (row .old) u)
-    go false t false u h = absurd (true≢false (sym h))
+    met : (c : Bool) → eqb v (row .old) ≡ c → isSwapped (cond c (record { verdict = 1; value = 0 }) (record { verdict = 0; value = 0 })) ≡ true → v ≡ row .old
+    met true q h = eqb-true v (row .old) q
+    met false q h = absurd (true≢false (sym h))
+
+    go : (kind : Kind) → kindOf row ≡ kind → isSwapped (answerBy kind (row .old) v) ≡ true → (kindOf row ≡ Compare) × (v ≡ row .old)
+    go Read q h = absurd (true≢false (sym h))
+    go Compare q h = (q, met (eqb v (row .old)) refl h)
 
 pub both-true-0 : (b c : Bool) → (b && c) ≡ true → b ≡ true
 both-true-0 true c h = refl
@@ -159,7 +163,7 @@ both-true-1 false c h = absurd (true≢false (sym h))
 
 -- a successful swap on word w later than a
 pub record SwapOn (rows : List Row) (w a : ℕ) (e : Entry) : Type 0 where
-  pub true-said : isTrue (said e) ≡ true
+  pub swap-said : isSwapped (said e) ≡ true
   pub later : a < e .position
   pub there : e .row < length rows
   pub on : rowNumbered rows (e .row) .word ≡ w
@@ -185,10 +189,10 @@ names-true (r ∷ rows) (suc k) w h e = names-true rows k w (omega arith) e
 pub swap-on : (rows : List Row) (w a : ℕ) (e : Entry) → isSwap rows w a e ≡ true → SwapOn rows w a e
 unfolding isSwap
 swap-on rows w a e h =
-    let h1 : (ltb a (e .position) && names rows (e .row) w) ≡ true = both-true-1 (isTrue (said e)) (ltb a (e .position) && names rows (e .row) w) h in
+    let h1 : (ltb a (e .position) && names rows (e .row) w) ≡ true = both-true-1 (isSwapped (said e)) (ltb a (e .position) && names rows (e .row) w) h in
     let h2 : names rows (e .row) w ≡ true = both-true-1 (ltb a (e .position)) (names rows (e .row) w) h1 in
     record {
-      true-said = both-true-0 (isTrue (said e)) (ltb a (e .position) && names rows (e .row) w) h;
+      swap-said = both-true-0 (isSwapped (said e)) (ltb a (e .position) && names rows (e .row) w) h;
       later = ltb-true a (e .position) (both-true-0 (ltb a (e .position)) (names rows (e .row) w) h1);
       there = names-there rows (e .row) w h2;
       on = names-on rows (e .row) w h2;
@@ -196,7 +200,7 @@ swap-on rows w a e h =
 
 pub is-swap : (rows : List Row) (w a : ℕ) (e : Entry) → SwapOn rows w a e → isSwap rows w a e ≡ true
 unfolding isSwap
-is-swap rows w a e h = rw (h .true-said, lt-ltb a (e .position) (h .later), names-true rows (e .row) w (h .there) (h .on))
+is-swap rows w a e h = rw (h .swap-said, lt-ltb a (e .position) (h .later), names-true rows (e .row) w (h .there) (h .on))
 
 pub first-swap : (rows : List Row) (w a none : ℕ) (l : List Entry) (x : Entry) (r : List Entry) → keep (isSwap rows w a) l ≡ x ∷ r → firstSwap rows w a none l ≡ x .position
 unfolding firstSwap
@@ -235,14 +239,14 @@ module _ (rows : List Row) (start : List ℕ) (good : (k : ℕ) → Good (length
       ∙ ap (λ l. getD l w 0) (final-join rows start (early a m) (late a m))
       ∙ final-quiet rows w (final rows start (early a m)) (late a m)
       (all-map (λ y. ((isSwap rows w a y ≡ false) × (y .row < length rows)) × (a < y .position)) (Quiet rows w)
-      (λ y h t o. true≢false (sym (sym (h .0 .0) ∙ is-swap rows w a y (record { true-said = t; later = h .1; there = h .0 .1; on = o }))))
+      (λ y h t o. true≢false (sym (sym (h .0 .0) ∙ is-swap rows w a y (record { swap-said = t; later = h .1; there = h .0 .1; on = o }))))
       (late a m)
       (all-both (λ y. (isSwap rows w a y ≡ false) × (y .row < length rows)) (λ y. a < y .position) (late a m)
       (keep-keeps (λ y. (isSwap rows w a y ≡ false) × (y .row < length rows)) (isLate a) m (all-both (λ y. isSwap rows w a y ≡ false) (λ y. y .row < length rows) m none there))
       (late-high a m)))
 
   -- a swap strictly after x: none of the entries up to x's own position
-  behind-swap : (w : ℕ) (vs : List ℕ) (m n : List Entry) (x : Entry) → Sorted (m ++ x ∷ n) → isTrue (said x) ≡ true
+  behind-swap : (w : ℕ) (vs : List ℕ) (m n : List Entry) (x : Entry) → Sorted (m ++ x ∷ n) → isSwapped (said x) ≡ true
       → getD (final rows vs (early (x .position) n)) w 0 ≡ getD vs w 0
   unfolding early
   behind-swap w vs m n x s t =
@@ -264,13 +268,12 @@ module _ (rows : List Row) (start : List ℕ) (good : (k : ℕ) → Good (length
       let there : getD (final rows start (early (x .position) (m ++ x ∷ n))) w 0 ≡ newOf row (getD vs (row .word) 0) =
       ap (λ l. getD (final rows start l) w 0) (early-through m n x s)
       ∙ ap (λ l. getD l w 0) (final-join rows start m (x ∷ early (x .position) n))
-      ∙ behind-swap w (moved rows x vs) m n x s (on .true-said)
-      ∙ ap (λ l. getD l w 0) (moved-true rows x vs (on .true-said))
+      ∙ behind-swap w (moved rows x vs) m n x s (on .swap-said)
+      ∙ ap (λ l. getD l w 0) (moved-swapped rows x vs (on .swap-said))
       ∙ ap (λ k. getD (set vs k (newOf row (getD vs (row .word) 0))) w 0) (on .on)
       ∙ getD-set-same vs w (newOf row (getD vs (row .word) 0)) 0 inside in
       let says : said x ≡ answerOf row (getD vs (row .word) 0) = right-right rows start m (x ∷ n) r .0 in
-      let was : (reads row ≡ false) × (getD vs (row .word) 0 ≡ row .old) = answer-true row (getD vs (row .word) 0) (ap isTrue (sym says) ∙ on .true-said) in
-      good (x .row) .differ (getD vs (row .word) 0) (was .0) (was .1) (sym there ∙ same ∙ here ∙ ap (λ k. getD vs k 0) (sym (on .on)))
+      good (x .row) .differ (getD vs (row .word) 0) (ap isSwapped (sym says) ∙ on .swap-said) (sym there ∙ same ∙ here ∙ ap (λ k. getD vs k 0) (sym (on .on)))
 
   pub lost : (w a none : ℕ) (l : List Entry) (x : Entry) (r : List Entry) → Sorted l → Right rows start l → All (λ y. y .row < length rows) l → keep (isSwap rows w a) l ≡ x ∷ r
       → getD (final rows start (early (firstSwap rows w a none l) l)) w 0 ≡ getD (final rows start (early a l)) w 0 → ⊥

@@ -13,6 +13,6 @@ pub record Said : Type 0 where
 abbrev pub said : Entry → Said
 said e = record { verdict = e .verdict; value = e .value }
 
--- "Verdicts: 0 false, 1 true": a successful swap is said
-unfoldable pub isTrue : Said → Bool
-isTrue d = eqb (d .verdict) 1
+-- "Verdicts: 0 false, 1 true": a successful swap is told of, which is 1 and no other verdict
+unfoldable pub isSwapped : Said → Bool
+isSwapped d = eqb (d .verdict) 1

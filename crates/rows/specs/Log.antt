@@ -8,7 +8,7 @@ use lib.Dec.{leb, ltb}
 use Rattle.runfile.specs.declared.Row.{Row}
 use Rattle.runfile.specs.Operations.{names}
 use Rattle.rows.specs.declared.Entry.{Entry}
-use Rattle.rows.specs.Entries.{said, isTrue}
+use Rattle.rows.specs.Entries.{said, isSwapped}
 
 -- "A new log row goes directly behind the last row of equal or smaller position, or to the front if there is none":
 -- the place for position q, with one row in front (b: it is of equal or smaller position) of a list whose own place is given
@@ -28,7 +28,7 @@ insert e log = take (place (e .position) log) log ++ (e ∷ drop (place (e .posi
 -- a "log row of a successful swap whose position is larger than its A1's and whose row number names a row on the same word":
 -- a is the position of the A1, w the word. A row number that is not in the file names no row.
 unfoldable pub isSwap : List Row → ℕ → ℕ → Entry → Bool
-isSwap rows w a e = isTrue (said e) && (ltb a (e .position) && names rows (e .row) w)
+isSwap rows w a e = isSwapped (said e) && (ltb a (e .position) && names rows (e .row) w)
 
 -- the position of "the front-most" such row, or `none` where there is none
 unfoldable pub firstSwap : List Row → (w a none : ℕ) → List Entry → ℕ

@@ -12,6 +12,8 @@ use lib.ListN.{getD, length}
 use borrow.Author.Tests.{ltb-true, ltb-false, leb-true, leb-false, eqb-true, eqb-false, not-true, not-false, eq-eqb}
 use Rattle.runfile.specs.declared.Header.{Header}
 use Rattle.runfile.specs.declared.Row.{Row}
+use Rattle.runfile.specs.declared.Kind.{Kind}
+use Rattle.runfile.specs.declared.Kind.the-variants.{Read, Compare}
 use Rattle.runfile.specs.declared.Field.{Field}
 use Rattle.runfile.specs.declared.Field.the-variants as field
 use Rattle.runfile.specs.declared.Room.{Room}
@@ -24,8 +26,9 @@ use Rattle.runfile.specs.Format.{offsetOf}
 use Rattle.runfile.specs.Layout.{marked, headerIn, rowsStart, strideOf, rowPlace, scheduleIn, lengthGiven}
 use Rattle.runfile.specs.Fields.{fields, fieldAt, orderOf, ordered, order-at, rising}
 use Rattle.runfile.specs.Actions.{crashAll, none, actionOf}
-use Rattle.runfile.specs.Refusals.{placeOf, outOfRange, zeroOld, zeroNew, badNumber, badField, badIn, sameFields, badAction, badByte, foundIf, firstOffender, badFieldIn, firstBadField, firstRow, firstLaterRow, firstByte, whole, found, orElse, firstOf, inOrder, refusalOf}
-use Rattle.runfile.specs.Table.{Marked, BadField, BadIn, ZeroOld, ZeroNew, FirstBadField, BadByte, First, rowOf, zeroByteOf, byteOf, Given, Earlier}
+use Rattle.runfile.specs.Kinds.{kindOf}
+use Rattle.runfile.specs.Refusals.{placeOf, outOfRange, zeroOld, zeroNew, badNumber, badField, badIn, sameBy, sameFields, badAction, badByte, foundIf, firstOffender, badFieldIn, firstBadField, firstRow, firstLaterRow, firstByte, whole, found, orElse, firstOf, inOrder, refusalOf}
+use Rattle.runfile.specs.Table.{Marked, BadField, BadIn, ZeroOld, ZeroNew, Same, SameFields, FirstBadField, BadByte, First, rowOf, zeroByteOf, byteOf, Given, Earlier}
 use Rattle.runfile.specs.Table as table
 use Rattle.runfile.specs.Lawful.{LawfulByte, of-one, of-all, has-mark, in-range, not-both, no-bad-field, lawful-byte, high-action, lawful}
 use Rattle.runfile.specs.Searches.{not-found, is-found, Earliest, earliest, found-earliest, found-none}
@@ -103,11 +106,19 @@ equals : (a b : ℕ) → Tells (eqb a b) (a ≡ b)
 equals a b = record { true-is = eqb-true a b; false-is = eqb-false a b }
 
 -- which kinds must have old 0, and which new 0
-tells-old : (kind : ℕ) → Tells (zeroOld kind) (ZeroOld kind)
-tells-old kind = equals kind 0
+always : Tells true Unit
+always = record { true-is = λ _. tt; false-is = λ e _. true≢false e }
 
-tells-new : (kind : ℕ) → Tells (zeroNew kind) (ZeroNew kind)
-tells-new kind = equals kind 0
+never : Tells false ⊥
+never = record { true-is = λ e. true≢false (sym e); false-is = λ _ h. h }
+
+tells-old : (kind : Kind) → Tells (zeroOld kind) (ZeroOld kind)
+tells-old Read = always
+tells-old Compare = never
+
+tells-new : (kind : Kind) → Tells (zeroNew kind) (ZeroNew kind)
+tells-new Read = always
+tells-new Compare = never
 
 -- "a read whose old or new is not 0": one of the two
 tells-number : (must : Bool) (Must : Type 0) (n : ℕ) → Tells must Must → Tells (badNumber must n) (Must × (n ≡ 0 → ⊥))
@@ -122,8 +133,8 @@ tells-field h row z field.Process = at-least (h .processes) (row .process)
 tells-field h row z field.Kind = less 1 (row .kind)
 tells-field h row z field.Word = at-least (h .words) (row .word)
 tells-field h row z field.ZeroByte = differs z 0
-tells-field h row z field.Old = tells-number _ _ (row .old) (tells-old (row .kind))
-tells-field h row z field.New = tells-number _ _ (row .new) (tells-new (row .kind))
+tells-field h row z field.Old = tells-number _ _ (row .old) (tells-old (kindOf row))
+tells-field h row z field.New = tells-number _ _ (row .new) (tells-new (kindOf row))
 
 -- 9: both searches, over the rows and in the row, find what is first
 module _ (h : Header) (f : List ℕ) (at : ℕ) where
@@ -179,12 +190,13 @@ module _ (h : Header) (f : List ℕ) (at : ℕ) where
     none-before = λ j a b. found-none (inRow j) 0 (length fields) (λ i c d. rw (said-false _ _ (tells-in j (fieldAt i)) (m .no-row-before j b (fieldAt i))));
   })
 
-tells-same : (row : Row) → Tells (sameFields row) ((row .kind ≡ 1) × (row .old ≡ row .new))
+tells-same : (row : Row) → Tells (sameFields row) (SameFields row)
 unfolding sameFields
-tells-same row = record {
-  true-is = λ e. let b = both-true (eqb (row .kind) 1) (eqb (row .old) (row .new)) e in (eqb-true _ _ (b .0), eqb-true _ _ (b .1));
-  false-is = λ e h. true≢false (rw (eq-eqb _ _ (h .0), eq-eqb _ _ (h .1)) at e);
-}
+tells-same row = go (kindOf row)
+  where
+    go : (kind : Kind) → Tells (sameBy kind (row .old) (row .new)) (Same kind (row .old) (row .new))
+    go Read = never
+    go Compare = equals (row .old) (row .new)
 
 bad-byte : (processes byte : ℕ) → badByte processes byte ≡ true → BadByte processes byte
 unfolding badByte

@@ -6,9 +6,11 @@ use mathlib.Core.List.{List}
 use native.Mathlib.Omega.{arith}
 use lib.Dec.{ltb, eqb}
 use lib.ListN.{getD, length, length-drop}
-use borrow.Author.Tests.{ltb-false, leb-false, eqb-false, eqb-true, not-false, eq-eqb, ne-eqb, le-ltb, lt-leb}
+use borrow.Author.Tests.{ltb-false, leb-false, eqb-false, eqb-true, not-false, ne-eqb, le-ltb, lt-leb}
 use Rattle.runfile.specs.declared.Header.{Header}
 use Rattle.runfile.specs.declared.Row.{Row}
+use Rattle.runfile.specs.declared.Kind.{Kind}
+use Rattle.runfile.specs.declared.Kind.the-variants.{Read, Compare}
 use Rattle.runfile.specs.declared.Field.{Field}
 use Rattle.runfile.specs.declared.Field.the-variants as field
 use Rattle.runfile.specs.declared.Room.{Room}
@@ -18,8 +20,9 @@ use Rattle.runfile.specs.Format.{leastHead, offsetOf, longestFile, longe
 use Rattle.runfile.specs.Layout.{marked, headerIn, rowsStart, strideOf, rowPlace, scheduleStart, scheduleIn, lengthGiven}
 use Rattle.runfile.specs.Fields.{fields, fieldAt, orderOf, ordered}
 use Rattle.runfile.specs.Actions.{crashAll, none, actionOf}
-use Rattle.runfile.specs.Refusals.{outOfRange, badField, badIn, sameFields, badAction, badByte, offendsAt, badFieldIn, firstBadField, firstRow, firstLaterRow, firstByte, below, same, found, headChecks, bodyChecks, fileChecks, roomChecks, inOrder, refusalOf}
-use Rattle.runfile.specs.Table.{Marked, rowOf, zeroByteOf, byteOf}
+use Rattle.runfile.specs.Kinds.{kindOf}
+use Rattle.runfile.specs.Refusals.{outOfRange, zeroOld, zeroNew, badField, badIn, sameBy, sameFields, badAction, badByte, offendsAt, badFieldIn, firstBadField, firstRow, firstLaterRow, firstByte, below, same, found, headChecks, bodyChecks, fileChecks, roomChecks, inOrder, refusalOf}
+use Rattle.runfile.specs.Table.{Marked, Same, SameFields, rowOf, zeroByteOf, byteOf}
 use Rattle.runfile.specs.Order.{Clear, clear-parts, accepts, accepted, passes, whole-clear}
 use Rattle.runfile.specs.Searches.{none-found, none-offends}
 
@@ -41,8 +44,8 @@ pub record LawfulRow (h : Header) (row : Row) (zeroByte : ℕ) : Type 0 where
   pub kind : row .kind ≤ 1
   pub word : row .word < h .words
   pub zero-byte : zeroByte ≡ 0
-  pub read-old : row .kind ≡ 0 → row .old ≡ 0
-  pub read-new : row .kind ≡ 0 → row .new ≡ 0
+  pub zero-old : zeroOld (kindOf row) ≡ true → row .old ≡ 0
+  pub zero-new : zeroNew (kindOf row) ≡ true → row .new ≡ 0
 
 -- refusal 12 is not given for this byte: a step, crash or wake of a process below P, or a crash of all
 pub data LawfulByte (processes byte : ℕ) : Type 0 where
@@ -56,7 +59,7 @@ pub record Lawful (h : Header) (f : List ℕ) (room : Room) : Type 0 where
   pub head : LawfulHead h f
   pub rows : (k : ℕ) → k < h .rows → LawfulRow h (rowOf h f k) (zeroByteOf h f k)
   pub ordered : (k : ℕ) → suc k < h .rows → rowOf h f k .process ≤ rowOf h f (suc k) .process
-  pub differ : (k : ℕ) → k < h .rows → rowOf h f k .kind ≡ 1 → rowOf h f k .old ≡ rowOf h f k .new → ⊥
+  pub differ : (k : ℕ) → k < h .rows → SameFields (rowOf h f k) → ⊥
   pub actions : (i : ℕ) → i < h .steps → LawfulByte (h .processes) (byteOf h f i)
   pub schedule : length (scheduleIn h f) ≡ h .steps
   pub words-room : h .words ≤ room .words
@@ -120,9 +123,17 @@ lawful-row h row z clear = record {
   kind = ltb-false _ _ (clear field.Kind);
   word = leb-false _ _ (clear field.Word);
   zero-byte = eqb-true _ _ (not-false _ (clear field.ZeroByte));
-  read-old = λ q. eqb-true _ _ (not-false _ (not-both (eqb (row .kind) 0) (not (eqb (row .old) 0)) (clear field.Old) (eq-eqb (row .kind) 0 q)));
-  read-new = λ q. eqb-true _ _ (not-false _ (not-both (eqb (row .kind) 0) (not (eqb (row .new) 0)) (clear field.New) (eq-eqb (row .kind) 0 q)));
+  zero-old = λ q. eqb-true _ _ (not-false _ (not-both (zeroOld (kindOf row)) (not (eqb (row .old) 0)) (clear field.Old) q));
+  zero-new = λ q. eqb-true _ _ (not-false _ (not-both (zeroNew (kindOf row)) (not (eqb (row .new) 0)) (clear field.New) q));
 }
+
+pub not-same : (row : Row) → sameFields row ≡ false → SameFields row → ⊥
+unfolding sameFields
+not-same row = go (kindOf row)
+  where
+    go : (kind : Kind) → sameBy kind (row .old) (row .new) ≡ false → Same kind (row .old) (row .new) → ⊥
+    go Read e h = h
+    go Compare e h = eqb-false (row .old) (row .new) e h
 
 -- from 3 on only 15 is an action
 pub high-action : (high : ℕ) → 3 ≤ high → actionOf high ≡ cond (eqb high 15) crashAll none
@@ -179,7 +190,7 @@ lawful f room h e =
       head = head;
       rows = λ k l. lawful-row h (rowOf h f k) (zeroByteOf h f k) (no-bad-field h s f start k (none-found (badFieldIn h s f start) 0 (h .rows) (body .0) k (omega arith) (omega arith)));
       ordered = λ k l. ltb-false (rowOf h f (suc k) .process) (rowOf h f k .process) (let back : suc k - 1 ≡ k = omega arith in rw back at (none-offends (rowPlace s start) (below s f start) 1 (h .rows - 1) (body .1 .0) (suc k) (omega arith) (omega arith)));
-      differ = λ k l q. eqb-false (rowOf h f k .old) (rowOf h f k .new) (not-both (eqb (rowOf h f k .kind) 1) (eqb (rowOf h f k .old) (rowOf h f k .new)) (none-offends (rowPlace s start) (same s f start) 0 (h .rows) (body .1 .1 .0) k (omega arith) (omega arith)) (eq-eqb (rowOf h f k .kind) 1 q));
+      differ = λ k l. not-same (rowOf h f k) (none-offends (rowPlace s start) (same s f start) 0 (h .rows) (body .1 .1 .0) k (omega arith) (omega arith));
       actions = λ i l. lawful-byte (h .processes) (byteOf h f i) (none-offends (λ j. scheduleStart h + j) (offendsAt (λ before. badByte (h .processes)) (scheduleIn h f)) 0 (length (scheduleIn h f)) (body .1 .1 .1 .0) i (omega arith) (omega arith));
       schedule = steps;
       words-room = ltb-false (room .words) (h .words) (whole-clear (ltb (room .words) (h .words)) (d .1 .0));

@@ -1,6 +1,7 @@
 pub mod Format
 pub mod Layout
 pub mod Fields
+pub mod Kinds
 pub mod Operations
 pub mod OperationLaws
 pub mod RowLaws

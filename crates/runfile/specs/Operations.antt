@@ -1,4 +1,4 @@
--- The operation rows of a file as a list, and what a row asks: document 01, "The run file".
+-- The operation rows of a file as a list: document 01, "The run file".
 use Prim.Native.Nat.{ℕ, zero, suc, _+_}
 use mathlib.Core.Bool.{Bool, false, cond}
 use mathlib.Core.List.{List, [], _∷_, _++_}
@@ -45,10 +45,3 @@ unfoldable pub names : List Row → ℕ → ℕ → Bool
 names [] k w = false
 names (row ∷ rows) zero w = eqb (row .word) w
 names (row ∷ rows) (suc k) w = names rows k w
-
--- "Kind 0 reads"; and what a swap of a row puts in, over the value that it found
-abbrev pub reads : Row → Bool
-reads row = eqb (row .kind) 0
-
-abbrev pub newOf : Row → ℕ → ℕ
-newOf row v = row .new

@@ -7,6 +7,8 @@ use lib.Dec.{leb, ltb, eqb}
 use lib.ListN.{getD, length, take}
 use Rattle.runfile.specs.declared.Header.{Header}
 use Rattle.runfile.specs.declared.Row.{Row}
+use Rattle.runfile.specs.declared.Kind.{Kind}
+use Rattle.runfile.specs.declared.Kind.the-variants.{Read, Compare}
 use Rattle.runfile.specs.declared.Field.{Field}
 use Rattle.runfile.specs.declared.Field.the-variants as field
 use Rattle.runfile.specs.declared.Room.{Room}
@@ -19,6 +21,7 @@ use Rattle.runfile.specs.declared.Checked.the-variants.{Accepted, Refuse
 use Rattle.runfile.specs.Format.{leastHead, offsetOf}
 use Rattle.runfile.specs.Layout.{marked, headerIn, rowsStart, strideOf, rowPlace, rowIn, zeroByteAt, scheduleStart, scheduleIn, lengthGiven}
 use Rattle.runfile.specs.Fields.{fields, fieldAt}
+use Rattle.runfile.specs.Kinds.{kindOf}
 use Rattle.runfile.specs.Actions.{Action, step, crash, wake, crashAll, none, action, named}
 
 -- the table's first column
@@ -43,15 +46,18 @@ numberOf refusal.AnswersRoom = 15
 abbrev pub outOfRange : ℕ → Bool
 outOfRange n = eqb n 0 || ltb 16 n
 
--- "Kind 0 reads, and its old and new are 0; kind 1 compares and swaps": which kinds a version has, which must have old 0 and which new 0
+-- "Kind 0 reads, and its old and new are 0; kind 1 compares and swaps": which numbers are kinds in a version, which kinds must have old 0 and
+-- which new 0
 abbrev pub badKind : ℕ → ℕ → Bool
 badKind version kind = ltb 1 kind
 
-abbrev pub zeroOld : ℕ → Bool
-zeroOld kind = eqb kind 0
+abbrev pub zeroOld : Kind → Bool
+zeroOld Read = true
+zeroOld Compare = false
 
-abbrev pub zeroNew : ℕ → Bool
-zeroNew kind = eqb kind 0
+abbrev pub zeroNew : Kind → Bool
+zeroNew Read = true
+zeroNew Compare = false
 
 -- 9: "a row's process, kind or word out of range, its zero byte not 0, or a read whose old or new is not 0", field by field
 abbrev pub badNumber : Bool → ℕ → Bool
@@ -62,8 +68,8 @@ badField h row zeroByte field.Process = leb (h .processes) (row .process)
 badField h row zeroByte field.Kind = badKind (h .version) (row .kind)
 badField h row zeroByte field.Word = leb (h .words) (row .word)
 badField h row zeroByte field.ZeroByte = not (eqb zeroByte 0)
-badField h row zeroByte field.Old = badNumber (zeroOld (row .kind)) (row .old)
-badField h row zeroByte field.New = badNumber (zeroNew (row .kind)) (row .new)
+badField h row zeroByte field.Old = badNumber (zeroOld (kindOf row)) (row .old)
+badField h row zeroByte field.New = badNumber (zeroNew (kindOf row)) (row .new)
 
 abbrev pub badIn : Header → ℕ → List ℕ → ℕ → ℕ → Field → Bool
 badIn h stride f start k = badField h (rowIn stride f start k) (zeroByteAt f (rowPlace stride start k))
@@ -73,8 +79,12 @@ abbrev pub below : ℕ → List ℕ → ℕ → ℕ → Bool
 below stride f start k = ltb (rowIn stride f start k .process) (rowIn stride f start (k - 1) .process)
 
 -- 11: "a compare row with old equal to new"
+abbrev pub sameBy : Kind → (old new : ℕ) → Bool
+sameBy Read old new = false
+sameBy Compare old new = eqb old new
+
 unfoldable pub sameFields : Row → Bool
-sameFields row = eqb (row .kind) 1 && eqb (row .old) (row .new)
+sameFields row = sameBy (kindOf row) (row .old) (row .new)
 
 abbrev pub same : ℕ → List ℕ → ℕ → ℕ → Bool
 same stride f start k = sameFields (rowIn stride f start k)

@@ -7,6 +7,8 @@ use mathlib.Core.List.{List}
 use lib.ListN.{getD, length, take}
 use Rattle.runfile.specs.declared.Header.{Header}
 use Rattle.runfile.specs.declared.Row.{Row}
+use Rattle.runfile.specs.declared.Kind.{Kind}
+use Rattle.runfile.specs.declared.Kind.the-variants.{Read, Compare}
 use Rattle.runfile.specs.declared.Field.{Field}
 use Rattle.runfile.specs.declared.Field.the-variants as field
 use Rattle.runfile.specs.declared.Room.{Room}
@@ -14,6 +16,7 @@ use Rattle.runfile.specs.declared.Refusal.{Refusal}
 use Rattle.runfile.specs.declared.Refusal.the-variants as refusal
 use Rattle.runfile.specs.Format.{offsetOf}
 use Rattle.runfile.specs.Layout.{byteAt, rowsStart, strideOf, rowPlace, rowIn, zeroByteAt, scheduleStart, scheduleIn, lengthGiven}
+use Rattle.runfile.specs.Kinds.{kindOf}
 use Rattle.runfile.specs.Refusals.{placeOf}
 
 -- 2: the mark is `SWR`
@@ -21,23 +24,33 @@ abbrev pub Marked : List ℕ → Type 0
 Marked f = (byteAt f 0 ≡ 83) × (byteAt f 1 ≡ 87) × (byteAt f 2 ≡ 82)
 
 -- 9: "a row's process, kind or word out of range, its zero byte not 0, or a read whose old or new is not 0", field by field
--- ("Kind 0 reads, and its old and new are 0; kind 1 compares and swaps": which kinds a version has, which must have old 0 and which new 0)
+-- ("Kind 0 reads, and its old and new are 0; kind 1 compares and swaps": which numbers are kinds in a version, which kinds must have old 0 and which new 0)
 abbrev pub BadKind : ℕ → ℕ → Type 0
 BadKind version kind = 1 < kind
 
-abbrev pub ZeroOld : ℕ → Type 0
-ZeroOld kind = kind ≡ 0
+abbrev pub ZeroOld : Kind → Type 0
+ZeroOld Read = Unit
+ZeroOld Compare = ⊥
 
-abbrev pub ZeroNew : ℕ → Type 0
-ZeroNew kind = kind ≡ 0
+abbrev pub ZeroNew : Kind → Type 0
+ZeroNew Read = Unit
+ZeroNew Compare = ⊥
 
 abbrev pub BadField : Header → Row → ℕ → Field → Type 0
 BadField h row zeroByte field.Process = h .processes ≤ row .process
 BadField h row zeroByte field.Kind = BadKind (h .version) (row .kind)
 BadField h row zeroByte field.Word = h .words ≤ row .word
 BadField h row zeroByte field.ZeroByte = zeroByte ≡ 0 → ⊥
-BadField h row zeroByte field.Old = ZeroOld (row .kind) × (row .old ≡ 0 → ⊥)
-BadField h row zeroByte field.New = ZeroNew (row .kind) × (row .new ≡ 0 → ⊥)
+BadField h row zeroByte field.Old = ZeroOld (kindOf row) × (row .old ≡ 0 → ⊥)
+BadField h row zeroByte field.New = ZeroNew (kindOf row) × (row .new ≡ 0 → ⊥)
+
+-- 11: "a compare row with old equal to new"
+abbrev pub Same : Kind → (old new : ℕ) → Type 0
+Same Read old new = ⊥
+Same Compare old new = old ≡ new
+
+abbrev pub SameFields : Row → Type 0
+SameFields row = Same (kindOf row) (row .old) (row .new)
 
 -- 12: "A byte is refused if its action is none, if its process is P or more for 0, 1 and 2, or if its low bits are not 0 for 15."
 pub data BadByte (processes byte : ℕ) : Type 0 where
@@ -99,7 +112,7 @@ Given h f room refusal.Steps at = (1024 < h .steps) × (at ≡ 0)
 Given h f room refusal.Length at = (length f ≡ lengthGiven h → ⊥) × (at ≡ 0)
 Given h f room refusal.Row at = FirstBadField h f at
 Given h f room refusal.Order at = FirstLaterRow h (λ k. rowOf h f k .process < rowOf h f (k - 1) .process) at
-Given h f room refusal.Same at = FirstRow h (λ k. (rowOf h f k .kind ≡ 1) × (rowOf h f k .old ≡ rowOf h f k .new)) at
+Given h f room refusal.Same at = FirstRow h (λ k. SameFields (rowOf h f k)) at
 Given h f room refusal.Action at = FirstByte h f (λ before byte. BadByte (h .processes) byte) at
 Given h f room refusal.WordsRoom at = (room .words < h .words) × (at ≡ 0)
 Given h f room refusal.LogRoom at = (room .log < 5 * h .steps) × (at ≡ 0)

@@ -3,10 +3,12 @@
 // `check` is the one door: every byte string is accepted, with its header by value, or refused by one
 // number and one place. Nothing is asked of its caller. The meaning of every answer stands in specs/Refusals.
 mod format;
+mod kinds;
 mod offends;
 mod read;
 mod shares;
 
+pub use kinds::kind_of;
 use offends::first_bad_byte;
 use offends::first_bad_field;
 use offends::first_below;
@@ -45,7 +47,13 @@ pub struct Header {
     pub steps: u16,
 }
 
-// An operation: kind 0 reads, kind 1 compares and swaps.
+// What an operation does: kind 0 reads, kind 1 compares and swaps.
+pub enum Kind {
+    Read,
+    Compare,
+}
+
+// An operation, with the number of its kind.
 pub struct Row {
     pub process: u8,
     pub kind: u8,

@@ -2,8 +2,10 @@
 use super::Field;
 use super::Found;
 use super::Header;
+use super::Kind;
 use super::format::new_place;
 use super::format::offset_of;
+use super::kinds::kind_numbered;
 use super::read::number_at;
 ghost use mathlib.Core.Path.{_≡_};
 ghost use Prim.Native.Nat.{_+_, _≤_, _<_};
@@ -23,16 +25,22 @@ const FIELDS: [Field; 6] = [
 ];
 
 // Which kinds must have old 0, and which new 0: "Kind 0 reads, and its old and new are 0".
-fn has_zero_old(kind: u8) -> bool
+fn has_zero_old(kind: Kind) -> bool
     ensures { λ r. ⌜ r ≡ zeroOld kind ⌝ }
 {
-    kind == 0
+    match kind {
+        Kind::Read => true,
+        Kind::Compare => false,
+    }
 }
 
-fn has_zero_new(kind: u8) -> bool
+fn has_zero_new(kind: Kind) -> bool
     ensures { λ r. ⌜ r ≡ zeroNew kind ⌝ }
 {
-    kind == 0
+    match kind {
+        Kind::Read => true,
+        Kind::Compare => false,
+    }
 }
 
 // Old or new, which stands at `place` in a row of this size, where it must be 0.
@@ -56,14 +64,13 @@ fn is_bad_field(file: &[u8], at: usize, stride: usize, field: Field, header: Hea
         Field::Kind => file[at + 1] > 1,
         Field::Word => file[at + 2] >= header.words,
         Field::ZeroByte => file[at + 3] != 0,
-        Field::Old => is_bad_number(file, has_zero_old(file[at + 1]), at + 4, stride),
+        Field::Old => {
+            let zero = has_zero_old(kind_numbered(file[at + 1]));
+            is_bad_number(file, zero, at + 4, stride)
+        }
         Field::New => {
-            is_bad_number(
-                file,
-                has_zero_new(file[at + 1]),
-                at + new_place(stride),
-                stride,
-            )
+            let zero = has_zero_new(kind_numbered(file[at + 1]));
+            is_bad_number(file, zero, at + new_place(stride), stride)
         }
     }
 }
@@ -73,11 +80,14 @@ fn is_same(file: &[u8], at: usize, stride: usize) -> bool
     requires { ⌜ RowSize stride × (at + stride ≤ length (now file)) ⌝ }
     ensures { λ r. ⌜ r ≡ sameFields (rowAt stride (now (file .entry)) at) ⌝ }
 {
-    if file[at + 1] != 1 {
-        return false;
+    let kind = kind_numbered(file[at + 1]);
+    match kind {
+        Kind::Read => false,
+        Kind::Compare => {
+            let new = number_at(file, at + new_place(stride), stride);
+            number_at(file, at + 4, stride) == new
+        }
     }
-    let new = number_at(file, at + new_place(stride), stride);
-    number_at(file, at + 4, stride) == new
 }
 
 // Refusal 12, of one byte: 0 step, 1 crash and 2 wake name a process, 3 to 14 are no action, 15 names none.

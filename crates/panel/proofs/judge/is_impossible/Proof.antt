@@ -8,7 +8,9 @@ use borrow.Author.Tests.{eqb-true, ltb-false}
 use denote.Ref.{now}
 use Rattle.runfile.specs.Layout.{rowOfTable, HasRow}
 use Rattle.runfile.specs.Shares.{has-row}
-use Rattle.runfile.specs.Operations.{rowsFrom, rowNumbered, reads}
+use Rattle.runfile.specs.declared.Kind.{Kind}
+use Rattle.runfile.specs.Kinds.{kindOf}
+use Rattle.runfile.specs.Operations.{rowsFrom, rowNumbered}
 use Rattle.machine.specs.Records.{rowOpen}
 use Rattle.machine.specs.Reach.{row-is}
 use Rattle.machine.specs.declared.Process.{Process}
@@ -38,7 +40,7 @@ inside first count r k o h = go (ltb count (r .begun)) refl (eqb (r .begun) 0) r
     go false x false y true w z e = let m : r .begun ≤ count = ltb-false count (r .begun) x in let q : k + 1 ≡ first + r .begun = eqb-true (k + 1) (first + r .begun) w in omega arith
 
 -- with no row open the kind makes no difference
-no-kind : (a b : Bool) (r : Process) → r .opened ≡ Closed → misdone a r ≡ misdone b r
+no-kind : (a b : Kind) (r : Process) → r .opened ≡ Closed → misdone a r ≡ misdone b r
 unfolding misdone
 no-kind a b r o = rw o
 
@@ -66,7 +68,7 @@ returns-3 c = let o = c .before .before .before .before .before in
     let l = st .pre .1 in
     let ra = c .before .before in
     or-miss _ _ _ miss
-    (c .misdone2 .ensures ∙ ap (λ row. misdone (reads row) (b .process))
+    (c .misdone2 .ensures ∙ ap (λ kind. misdone kind (b .process)) (c .before .kind-of .ensures) ∙ ap (λ row. misdone (kindOf row) (b .process))
     (ra .row-at .ensures ∙ ap (λ i. rowOfTable (b .stride) (now (b .table)) i) (ra .before .index16 .ensures .0) ∙ row-is (b .stride) (now (b .table)) (b .n) _ (omega arith)
     ∙ ap (λ o. rowNumbered (rowsFrom (b .stride) (now (b .table)) 0 (b .n)) (rowOpen o)) (sym (o .opened .given .1))))
 
@@ -81,6 +83,7 @@ is-impossible-spec =
     (λ c. search needs)
     (λ c κs. search needs)
     row-at-requires
+    (λ c κs. search needs)
     (λ c κs. search needs)
     returns-2
     returns-3)

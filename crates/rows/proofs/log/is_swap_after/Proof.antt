@@ -12,7 +12,7 @@ use Rattle.runfile.specs.Layout.{rowOfTable}
 use Rattle.runfile.specs.Shares.{has-row}
 use Rattle.runfile.specs.Operations.{rowsFrom}
 use Rattle.runfile.specs.OperationLaws.{names-table, names-past}
-use Rattle.rows.specs.Entries.{isTrue}
+use Rattle.rows.specs.Entries.{isSwapped}
 use Rattle.rows.specs.Log.{isSwap}
 use Rattle.rows.specs.Buffers.{entryAt}
 use Rattle.rows.proofs.log.is_swap_after.Statement.{statement}
@@ -23,21 +23,21 @@ module _ (stride : ℕ) (table log : List ℕ) (n w a k : ℕ) where
   found = isSwap (rowsFrom stride table 0 n) w a (entryAt log k)
 
   lost : (getD log (k + 3) 0 ≡ 1 → ⊥) → false ≡ found
-  unfolding isSwap isTrue entryAt
+  unfolding isSwap isSwapped entryAt
   lost h = rw (ne-eqb (getD log (k + 3) 0) 1 h)
 
   early : getD log (k + 3) 0 ≡ 1 → getD log k 0 ≤ a → false ≡ found
-  unfolding isSwap isTrue entryAt
+  unfolding isSwap isSwapped entryAt
   early won h = rw (won, le-ltb a (getD log k 0) h)
 
   -- of a successful swap that is late enough the row that it names decides
   module _ (won : getD log (k + 3) 0 ≡ 1) (later : a < getD log k 0) where
     past : n ≤ getD log (k + 2) 0 → false ≡ found
-    unfolding isSwap isTrue entryAt
+    unfolding isSwap isSwapped entryAt
     past h = rw (won, lt-ltb a (getD log k 0) later, names-past stride table 0 n (getD log (k + 2) 0) w h)
 
     there : getD log (k + 2) 0 < n → (x : ℕ) → x ≡ rowOfTable stride table (getD log (k + 2) 0) .word → eqb x w ≡ found
-    unfolding isSwap isTrue entryAt
+    unfolding isSwap isSwapped entryAt
     there h x is = rw (won, lt-ltb a (getD log k 0) later, names-table stride table n (getD log (k + 2) 0) w h, is)
 
 returns : tie.Need-returns

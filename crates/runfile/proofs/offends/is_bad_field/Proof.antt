@@ -23,11 +23,11 @@ returns-4 c = simp (c .before .enum-told4 .given .1)
 
 returns-5 : tie.Need-returns-5
 unfolding badField rowAt
-returns-5 c = simp (c .is-bad-number .ensures, c .before .has-zero-old .ensures, c .before .before .before .enum-told5 .given .1)
+returns-5 c = simp (c .is-bad-number .ensures, c .before .has-zero-old .ensures, c .before .before .kind-numbered .ensures, c .before .before .before .before .enum-told5 .given .1)
 
 returns-6 : tie.Need-returns-6
 unfolding badField rowAt
-returns-6 c = simp (c .is-bad-number2 .ensures, c .before .new-place .ensures .0, c .before .before .has-zero-new .ensures, c .before .before .before .before .enum-told6 .given .1)
+returns-6 c = simp (c .is-bad-number2 .ensures, c .before .new-place .ensures .0, c .before .before .has-zero-new .ensures, c .before .before .before .kind-numbered2 .ensures, c .before .before .before .before .before .enum-told6 .given .1)
 
 pub is-bad-field-spec : {M : Type 1} → statement M
 is-bad-field-spec =
@@ -48,11 +48,13 @@ is-bad-field-spec =
     (λ c. search needs)
     (λ c. search needs)
     (λ c κs. search needs)
+    (λ c κs. search needs)
     (λ c. search needs)
     (λ c κs. search needs)
     (λ c. search needs)
     (λ c. search needs)
     (λ c. search needs)
+    (λ c κs. search needs)
     (λ c κs. search needs)
     (λ c κs. search needs)
     (λ c. search needs)

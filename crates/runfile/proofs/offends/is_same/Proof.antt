@@ -1,18 +1,18 @@
--- `is_same` meets its contract: the two tests in order.
+-- `is_same` meets its contract: the kind's line.
 use Rattle.runfile.specs.Layout.{rowAt}
 use Rattle.runfile.specs.Refusals.{sameFields}
-use borrow.Author.Tests.{eq-eqb, ne-eqb}
+use mathlib.Core.Path.{sym, _∙_}
 use borrow.Author.Needs.{needs}
 use Rattle.runfile.proofs.offends.is_same.Statement.{statement}
 use Rattle.runfile.proofs.offends.is_same.Tie as tie
 
 returns : tie.Need-returns
 unfolding sameFields rowAt
-returns c = simp (ne-eqb _ _ (c .if1 .taken))
+returns c = rw (sym (c .before .before .kind-numbered .ensures) ∙ c .enum-told .given .1)
 
 returns-2 : tie.Need-returns-2
 unfolding sameFields rowAt
-returns-2 c = simp (c .number-at2 .ensures, c .before .number-at .ensures, c .before .before .new-place .ensures .0, eq-eqb _ _ (c .before .before .before .if1 .left))
+returns-2 c = rw (c .number-at2 .ensures, c .before .number-at .ensures, c .before .before .new-place .ensures .0, sym (c .before .before .before .before .before .kind-numbered .ensures) ∙ c .before .before .before .enum-told2 .given .1)
 
 pub is-same-spec : {M : Type 1} → statement M
 is-same-spec =
@@ -20,10 +20,13 @@ is-same-spec =
     (tie.spec
     (λ c. search needs)
     (λ c. search needs)
+    (λ c κs. search needs)
+    (λ c. search needs)
+    (λ c. search needs)
+    (λ c κs. search needs)
+    (λ c. search needs)
+    (λ c κs. search needs)
+    (λ c. search needs)
+    (λ c κs. search needs)
     returns
-    (λ c κs. search needs)
-    (λ c. search needs)
-    (λ c κs. search needs)
-    (λ c. search needs)
-    (λ c κs. search needs)
     returns-2)

@@ -1,0 +1,13 @@
+-- `kind_numbered` meets its contract, by the number.
+use borrow.Author.Tests.{ne-eqb}
+use Rattle.runfile.proofs.kinds.kind_numbered.Statement.{statement}
+use Rattle.runfile.proofs.kinds.kind_numbered.Tie as tie
+
+returns : tie.Need-returns
+returns c = simp (c .match .keys1)
+
+returns-2 : tie.Need-returns-2
+returns-2 c = simp (ne-eqb _ _ (c .match .rest .1))
+
+pub kind-numbered-spec : {M : Type 1} → statement M
+kind-numbered-spec = tie.close (tie.spec returns returns-2)

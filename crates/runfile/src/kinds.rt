@@ -1,0 +1,21 @@
+// The kind of an operation row, by its number in the file.
+use super::Kind;
+use super::Row;
+ghost use mathlib.Core.Path.{_≡_};
+ghost use Rattle.runfile.specs.Kinds.{kindNumbered, kindOf};
+
+// "Kind 0 reads"; a number that is no kind's is refused under 9, and goes with 1 elsewhere.
+pub fn kind_numbered(number: u8) -> Kind
+    ensures { λ r. ⌜ r ≡ kindNumbered number ⌝ }
+{
+    match number {
+        0 => Kind::Read,
+        _ => Kind::Compare,
+    }
+}
+
+pub fn kind_of(row: Row) -> Kind
+    ensures { λ r. ⌜ r ≡ kindOf row ⌝ }
+{
+    kind_numbered(row.kind)
+}
