@@ -13,6 +13,7 @@ use Rattle.runfile.specs.declared.Header.{Header}
 use Rattle.runfile.specs.declared.Row.{Row}
 use Rattle.runfile.specs.declared.Checked.{Checked}
 use Rattle.runfile.specs.declared.Checked.the-variants as checked
+use Rattle.runfile.specs.declared.Refusal.the-variants.{WordsRoom}
 use Rattle.runfile.specs.Operations.{tableOf}
 use Rattle.runfile.specs.Refusals.{refusalOf}
 use Rattle.runfile.specs.Lawful.{lawful}
@@ -22,7 +23,7 @@ use Rattle.machine.specs.Records.{nobody}
 use Rattle.machine.specs.Machine.{step}
 use Rattle.panel.specs.declared.Verdict.{Verdict}
 use Rattle.panel.specs.declared.Verdict.the-variants.{Fine, Not}
-use Rattle.panel.specs.declared.Why.the-variants.{File, Words}
+use Rattle.panel.specs.declared.Why.the-variants.{Run}
 use Rattle.panel.specs.declared.Outcome.the-variants.{Went, Refused}
 use Rattle.panel.specs.Fits.{not-fine, list-room}
 use Rattle.panel.specs.Longer.{grows}
@@ -99,8 +100,8 @@ module _ (f : List ℕ) (records : List Process) (words log answers : List ℕ) 
   verdict-alike h few = rw (← (short-alike (length records) (h .processes) few)) (go (ltb (length words) (h .words)) (ltb n (h .processes)) refl _)
     where
       go : (a c : Bool) → ltb n (h .processes) ≡ c → (rest : Verdict)
-          → andThen (cond a (Not Words 0) (cond c (Not Words 0) rest)) (sound h f (laid n records blank) byte position)
-          ≡ andThen (cond a (Not Words 0) (cond c (Not Words 0) rest)) (sound h f records byte position)
+          → andThen (cond a (Not (Run WordsRoom) 0) (cond c (Not (Run WordsRoom) 0) rest)) (sound h f (laid n records blank) byte position)
+          ≡ andThen (cond a (Not (Run WordsRoom) 0) (cond c (Not (Run WordsRoom) 0) rest)) (sound h f records byte position)
       go true c q rest = refl
       go false true q rest = refl
       go false false q rest = rw (any-laid records blank n held (tableOf h f) 0 (h .processes) (let l = ltb-false n (h .processes) q in omega arith)) refl
@@ -145,6 +146,6 @@ module _ (f : List ℕ) (records : List Process) (words log answers : List ℕ) 
   keyed-is = go (refusalOf f ample) refl
     where
       go : (c : Checked) → refusalOf f ample ≡ c → givenBack n records (pressedAs (judgedAs c f n k table) f k table) ≡ pressedAs (judgedAs c f (length records) k lends) f k lends
-      go (checked.Refused why place) q = alike (Not (File why) place) (λ h e. absurd (not-fine e))
+      go (checked.Refused why place) q = alike (Not (Run why) place) (λ h e. absurd (not-fine e))
       go (checked.Accepted h) q =
           alike (judged h f n k table) (λ g e. list-room h f n k table g e) ∙ ap (λ v. pressedAs v f k lends) (verdict-alike h (lawful f ample h q .head .processes))

@@ -11,6 +11,7 @@ use Rattle.runfile.specs.declared.Header.{Header}
 use Rattle.runfile.specs.declared.Room.{Room}
 use Rattle.runfile.specs.declared.Checked.{Checked}
 use Rattle.runfile.specs.declared.Checked.the-variants as checked
+use Rattle.runfile.specs.declared.Refusal.the-variants.{WordsRoom, LogRoom, AnswersRoom}
 use Rattle.runfile.specs.Actions.{action}
 use Rattle.runfile.specs.Operations.{tableOf}
 use Rattle.runfile.specs.Lawful.{Lawful}
@@ -19,7 +20,7 @@ use Rattle.rows.specs.Buffers.{rowsOf, flat, infront}
 use Rattle.machine.specs.declared.Process.{Process}
 use Rattle.machine.specs.Machine.{State, step}
 use Rattle.panel.specs.declared.Why.{Why}
-use Rattle.panel.specs.declared.Why.the-variants.{File, Words, Log, Answers, Record, Key}
+use Rattle.panel.specs.declared.Why.the-variants.{Run, Record, Key}
 use Rattle.panel.specs.declared.Verdict.{Verdict}
 use Rattle.panel.specs.declared.Verdict.the-variants.{Fine, Not}
 use Rattle.panel.specs.declared.Outcome.{Outcome}
@@ -28,10 +29,7 @@ use Rattle.panel.specs.Possible.{anyImpossible}
 
 -- the numbers of the request
 abbrev pub numberOfWhy : Why → ℕ
-numberOfWhy (File why) = numberOf why
-numberOfWhy Words = 13
-numberOfWhy Log = 14
-numberOfWhy Answers = 15
+numberOfWhy (Run why) = numberOf why
 numberOfWhy Record = 21
 numberOfWhy Key = 22
 
@@ -62,10 +60,10 @@ lent processes words log answers = record { processes = processes; words = words
 -- 13 to 15: "a list shorter than P", "no room for one more row"; then 21 and 22. For a file that is accepted
 abbrev pub roomyBy : Header → (n words log answers logRows answerRows : ℕ) → Verdict
 roomyBy h n words log answers logRows answerRows =
-    cond (ltb words (h .words)) (Not Words 0)
-    (cond (ltb n (h .processes)) (Not Words 0)
-    (cond (ltb log (logRows * 5 + 5)) (Not Log 0)
-    (cond (ltb answers (answerRows * 5 + 5)) (Not Answers 0) (Fine h))))
+    cond (ltb words (h .words)) (Not (Run WordsRoom) 0)
+    (cond (ltb n (h .processes)) (Not (Run WordsRoom) 0)
+    (cond (ltb log (logRows * 5 + 5)) (Not (Run LogRoom) 0)
+    (cond (ltb answers (answerRows * 5 + 5)) (Not (Run AnswersRoom) 0) (Fine h))))
 
 abbrev pub roomy : Header → ℕ → Pressing → Lent → Verdict
 roomy h n k l = roomyBy h n (length (l .words)) (length (l .log)) (length (l .answers)) (k .logRows) (k .answerRows)
@@ -84,7 +82,7 @@ unfoldable pub judged : Header → List ℕ → ℕ → Pressing → Lent → Ve
 judged h f n k l = andThen (roomy h n k l) (sound h f (l .processes) (k .byte) (k .position))
 
 abbrev pub judgedAs : Checked → List ℕ → ℕ → Pressing → Lent → Verdict
-judgedAs (checked.Refused why place) f n k l = Not (File why) place
+judgedAs (checked.Refused why place) f n k l = Not (Run why) place
 judgedAs (checked.Accepted h) f n k l = judged h f n k l
 
 unfoldable pub verdictOf : List ℕ → ℕ → Pressing → Lent → Verdict

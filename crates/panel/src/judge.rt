@@ -8,6 +8,7 @@ use machine::Process;
 use runfile::Checked;
 use runfile::Header;
 use runfile::Kind;
+use runfile::Refusal;
 use runfile::Room;
 ghost use mathlib.Core.Path.{_≡_};
 ghost use mathlib.Core.Bool.{_||_};
@@ -85,16 +86,16 @@ fn room_verdict(
     ensures { λ r. ⌜ r ≡ press.roomyBy header n words log answers «log_rows» «answer_rows» ⌝ }
 {
     if words < runfile::index8(header.words) {
-        return Verdict::Not(Why::Words, 0);
+        return Verdict::Not(Why::Run(Refusal::WordsRoom), 0);
     }
     if n < runfile::index8(header.processes) {
-        return Verdict::Not(Why::Words, 0);
+        return Verdict::Not(Why::Run(Refusal::WordsRoom), 0);
     }
     if log / 5 <= log_rows {
-        return Verdict::Not(Why::Log, 0);
+        return Verdict::Not(Why::Run(Refusal::LogRoom), 0);
     }
     if answers / 5 <= answer_rows {
-        return Verdict::Not(Why::Answers, 0);
+        return Verdict::Not(Why::Run(Refusal::AnswersRoom), 0);
     }
     Verdict::Fine(header)
 }
@@ -147,7 +148,7 @@ pub fn verdict_of(
         answers: 5120,
     };
     match runfile::check(file, room) {
-        Checked::Refused(why, place) => Verdict::Not(Why::File(why), place),
+        Checked::Refused(why, place) => Verdict::Not(Why::Run(why), place),
         Checked::Accepted(header) => {
             let roomy = room_verdict(
                 header,

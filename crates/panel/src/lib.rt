@@ -19,13 +19,9 @@ ghost use mathlib.Core.Path.{_≡_};
 
 // Why a key is refused.
 pub enum Why {
-    // One of the run file's own refusals, 1 to 12.
-    File(runfile::Refusal),
-    // The words buffer, or the list of records, is too short.
-    Words,
-    // No room for one more row.
-    Log,
-    Answers,
+    // One that a run has too, 1 to 15: 1 to 12 come from the file. `WordsRoom` is also a list of records that is too short,
+    // and `LogRoom` and `AnswersRoom` mean no room for one more row.
+    Run(runfile::Refusal),
     // The position, or a record, cannot be.
     Record,
     // The byte is no action.
@@ -55,10 +51,7 @@ pub fn why_number(why: Why) -> u32
     ensures { λ r. ⌜ r ≡ numberOfWhy why ⌝ }
 {
     match why {
-        Why::File(refusal) => runfile::refusal_number(refusal),
-        Why::Words => 13,
-        Why::Log => 14,
-        Why::Answers => 15,
+        Why::Run(refusal) => runfile::refusal_number(refusal),
         Why::Record => 21,
         Why::Key => 22,
     }
