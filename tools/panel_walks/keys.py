@@ -1,17 +1,14 @@
 """The walks of `key` and `key_on_table`: slices are handed on, and come back."""
 from frame import closing, contract, known, said, stayed, write
-from names import CONTRACTS, NUMBERS, dashed, number_typed, own_number, own_table, slice_typed, table_typed
+from names import CONTRACTS, dashed, number_typed, own_number, own_struct, own_table, slice_typed, struct_typed, table_typed
 from walk import Walk, asked, items, left, local, part, sub, tuple_of, type_of
 
 LISTS = ['file', 'records', 'words', 'log', 'answers']
 ELEMENTS = ['u8', 'R', 'u32', 'u32', 'u32']
 K, Q, B, O, G, X, S = [[c + sub(k) for k in range(5)] for c in 'κqboγxs']
 ROOMS = ['room' + sub(k) for k in range(5)]
-NUMBER_NAMES = [n for n, _, _ in NUMBERS]
-NUMBER_OWNS = [own_number(n, n + '-fits', ty, width) for n, ty, width in NUMBERS]
-NUMBER_PASSED = [f'vint w{width} {n}' for n, _, width in NUMBERS]
-NUMBER_VALUES = [f'{v} ∷ []' for v in NUMBER_PASSED]
-NUMBER_TYPES = [ty for _, ty, _ in NUMBERS]
+# what comes with the key: the last parameter of `press`, `key` and `key_on_table`, a struct; v-stroke is its machine value
+OWN_KEY = own_struct('S', 'stroke', 'stroke-is')
 AFTER = ' '.join(f'{x}′' for x in LISTS[1:])
 
 
@@ -78,13 +75,13 @@ def frame_of(slices, table):
     return f"""{refs}
 {vals}
   abbrev Arg : Type 0
-  Arg = {type_of(ts + ['ℕ'] * len(NUMBERS))}
+  Arg = {type_of(ts + ['Stroke'])}
 
   abbrev x : Arg
-  x = {tuple_of(xs + NUMBER_NAMES)}
+  x = {tuple_of(xs + ['stroke'])}
 
-  abbrev at : {type_of(['List Val'] * (len(xs) + len(NUMBERS)))}
-  at = {tuple_of(ss + NUMBER_VALUES)}
+  abbrev at : {type_of(['List Val'] * (len(xs) + 1))}
+  at = {tuple_of(ss + ['v-stroke ∷ []'])}
 
   abbrev bound : walkOf 𝓤 H A f.ended stayed (f.clauses 𝓤 H A mem run) .Ghost
   bound = (({tuple_of([K[k] for k in slices])}, {tuple_of([Q[k] for k in slices])}, tt, x, at), tt)
@@ -98,18 +95,16 @@ def binders(slices):
     return f"({' '.join(K[k] for k in slices)} : Lft) ({' '.join(Q[k] for k in slices)} : Share)" + ''.join(f' ({B[k]} {O[k]} : ℕ) ({G[k]} : GName) ({LISTS[k]} : {denoted(k)})' for k in slices)
 
 
-NUMBER_BINDERS = f"({' '.join(NUMBER_NAMES)} : ℕ) " + ' '.join(f'({n}-fits : {n} < 2 ^ {width})' for n, _, width in NUMBERS)
-NUMBER_PARAMS = [('plain', ty) for _, ty, _ in NUMBERS]
-NUMBER_VALS = [f'uint-vals w{width}' for _, _, width in NUMBERS]
-NUMBER_TELLS = [f'uint-tells w{width}' for _, _, width in NUMBERS]
-KEYED = ' '.join(['keyed file records words log answers'] + NUMBER_NAMES)
-PRESSED = ' '.join(['pressed file n u words log answers'] + NUMBER_NAMES)
+KEY_BINDERS = '(stroke : Stroke) (v-stroke : Val) (stroke-is : Is S.the-row stroke (v-stroke ∷ []))'
+KEY_PARAM = ('plain', 'S.the-row')
+KEY_VALS = 'LL.vals S.the-type S′.the-laws'
+KEY_TELLS = 'LL.tells S.the-type S′.the-laws'
+KEYED = 'Keyed file records words log answers stroke'
 
 
-def handed_numbers(at):
-    """The numbers and that they fit, from what `walked` hands on; at: the place of the first among the parameters."""
-    ks = range(at, at + len(NUMBERS))
-    return ' '.join(f'({part("a", k)})' for k in ks) + ' ' + ' '.join(f'({part("are", k)} .1)' for k in ks)
+def handed_key(at):
+    """The key, its machine value, and that this is its value, from what `walked` hands on; at: its place among the parameters."""
+    return f'({part("a", at)}) (only (LL.vals S.the-type S′.the-laws ({part("a", at)}))) ({part("are", at)})'
 
 
 def handed_slices(at):
@@ -126,24 +121,23 @@ def handed_on(c, names):
 
 # ---- key
 
-COUNT = len(NUMBERS)
 ALL = range(5)
 PRESS_SLICES = [0, 2, 3, 4]
-KEY_SIZE = 22 + COUNT
-# its locals after the result and the parameters: n, the table, what `press` left, its table, the length; a reference and a slice for each
-# slice that is lent on; and the unit that `give` returns
-N_, TABLE, AFTER_, LEFT, LENGTH, SEEN, SHOWN, WORDS, LOG, ANSWERS, UNIT, LENT, GIVEN_ = [6 + COUNT + k for k in [0, 1, 2, 3, 4, 5, 6, 8, 10, 12, 13, 14, 15]]
+KEY_SIZE = 24
+# its locals after the result and the six parameters: n, the array, the table, what `press` left, its array, the length; a reference and a
+# slice for each slice that is lent on; and the unit that `give` returns
+N_, ARRAY, TABLE, AFTER_, LEFT, LENGTH, SEEN, SHOWN, WORDS, LOG, ANSWERS, UNIT, LENT, GIVEN_ = 7, 8, 9, 10, 11, 12, 13, 14, 16, 18, 20, 21, 22, 23
 PRESS_LIFETIMES = tuple_of([K[k] for k in PRESS_SLICES])
-PRESS_APPLIED = f'{PRESS_LIFETIMES} (press-args n u)'
+PRESS_APPLIED = f'{PRESS_LIFETIMES} (press-args t)'
 KEY_LEFT = [token(k) for k in ALL] + [own_slice(0)] + [last(k) for k in [1, 2, 3, 4]] + ['‵ (O.the-row .own r (v ∷ []))']
 PRESS_GIVEN = [token(k) for k in PRESS_SLICES] + [own_slice(k) for k in PRESS_SLICES]
-BUFFERS = ' '.join(f'({part("vs", k)})' for k in [3, 4, 5])
+BUFFERS = ' '.join(f'({part("vs", k)})' for k in [2, 3, 4])
 
 
 def key_exit():
     lasts = [f'last{k}' for k in [1, 2, 3, 4]]
     tokens = [f'token{k}' for k in ALL]
-    return left(tokens + ['own0'] + lasts + ['result'], tokens, ['own0'] + lasts + NUMBER_OWNS)
+    return left(tokens + ['own0'] + lasts + ['result'], tokens, ['own0'] + lasts + [OWN_KEY])
 
 
 def take_asked():
@@ -152,7 +146,7 @@ def take_asked():
 
 def press_asked():
     tokens = [f'token{k}' for k in PRESS_SLICES]
-    owns = ['own0', own_number('n', 'n-fits'), own_table('u', 'ut'), 'own2', 'own3', 'own4'] + NUMBER_OWNS
+    owns = ['own0', own_struct('B', 't', 'tt′'), 'own2', 'own3', 'own4', OWN_KEY]
     return asked(tokens + [f'own{k}' for k in PRESS_SLICES], 'small', owns, tokens)
 
 
@@ -166,8 +160,7 @@ def key_enters():
     c.line()
     for k in ALL:
         c.param(k + 1, slice_typed(f'{ROOMS[k]} .0'))
-    for k, n in enumerate(NUMBER_NAMES):
-        c.param(k + 6, number_typed(n + '-fits'))
+    c.param(6, struct_typed('S', 'stroke', 'stroke-is'))
     c.write('pass0 ! $ ')
     c.line('what the parameters own, and the tokens, are taken apart; what the file owns is had twice, for `press` and for the exit')
     c.fapart('owns', [f'own{k}' for k in ALL])
@@ -218,7 +211,7 @@ def key_takes(c):
     c.hears('(u ≡ laid n records blank)', '(take-of 𝓤 H A mem run (ν ∷ []) (named-as δ, (n, tt)) u)', 'taken')
     c.split('back', 'tokens', 'own-u')
     c.peek('u', 'RA', '(w₂ ∷ [])', 'ut')
-    c.land(TABLE, table_typed('u', 'ut'))
+    c.land(ARRAY, table_typed('u', 'ut'))
     c.drop('own-u')
     c.apart('tokens', ['token'])
     c.rule('lft-end ! tt $', ['token'], ['dead'])
@@ -231,42 +224,54 @@ def key_takes(c):
     c.fjoin('fact1', 'borrow', 'own1')
 
 
+def key_tables(c):
+    c.line('table = table_of(processes, n)')
+    c.push('nothing ! $', 'end')
+    c.call('table_of', 'end', '(to-table-of u w₂ n)', '(goes-table-of u w₂ n ut (nt .1))', [ARRAY, N_], 'tt (u, (n, tt))', ('t', 'Table', 'B.the-row', 'w₃'))
+    c.hears('((t .processes ≡ u) × (t .held ≡ n))', '(table-is 𝓤 H A mem run u n t)', 'tabled')
+    c.split('back', 'end', 'own-t')
+    c.drop('end')
+    c.peek('t', 'B.the-row', '(w₃ ∷ [])', 'tt′')
+    c.land(TABLE, struct_typed('B', 't', 'tt′'))
+    c.drop('own-t')
+
+
 def key_presses(c):
-    c.line('after = press(file, n, processes, words, ..)')
+    c.line('after = press(file, table, words, log, answers, key)')
     for p, s in zip([3, 4, 5], [WORDS, LOG, ANSWERS]):
         c.lend_on(p, s - 1, s, f'{ROOMS[p - 1]} .0')
     names = [f'token{k}' for k in PRESS_SLICES] + [f'own{k}' for k in PRESS_SLICES]
     handed_on(c, names)
-    c.call('press', 'handed', '(to-press n u w₂)', '(goes-press n u w₂ (nt .1) ut (count .1))', [1, N_, TABLE, WORDS, LOG, ANSWERS] + [6 + k for k in range(COUNT)], PRESS_APPLIED, ('m', 'After', 'N.the-row', 'w₃'), tokens_of(PRESS_SLICES))
-    pick_lasts(c, 'press', 'vs', ['Unit {0}'] * 3 + ['List ℕ'] * 3 + ['Unit {0}'] * COUNT, PRESS_APPLIED, {2: 3, 3: 4, 4: 5}, f'PressSays n u m {BUFFERS}', 'pressed-is')
+    c.call('press', 'handed', '(to-press t w₃)', '(goes-press t w₃ tt′ (small-table t n (tabled .1) (count .1)))', [1, TABLE, WORDS, LOG, ANSWERS, 6], PRESS_APPLIED, ('m', 'After', 'N.the-row', 'w₄'), tokens_of(PRESS_SLICES))
+    pick_lasts(c, 'press', 'vs', ['Unit {0}'] * 2 + ['List ℕ'] * 3 + ['Unit {0}'], PRESS_APPLIED, {2: 2, 3: 3, 4: 4}, f'PressSays t m {BUFFERS}', 'pressed-is')
     c.split('back', 'tokens', 'own-m')
     c.apart('tokens', [f'token{k}' for k in PRESS_SLICES])
-    c.peek('m', 'N.the-row', '(w₃ ∷ [])', 'mt')
+    c.peek('m', 'N.the-row', '(w₄ ∷ [])', 'mt')
     c.land(AFTER_, '(LL.lawful N.the-type N′.the-laws 𝓤 H A W .typed m _ mt .0)')
-    c.rewrite(f'_{AFTER_}', f'(λ (w : Val). ‵ (fat fullShare N′.mir {local(AFTER_)} 0 w))', '(ap only (LL.tells N.the-type N′.the-laws m (w₃ ∷ []) mt))')
+    c.rewrite(f'_{AFTER_}', f'(λ (w : Val). ‵ (fat fullShare N′.mir {local(AFTER_)} 0 w))', '(ap only (LL.tells N.the-type N′.the-laws m (w₄ ∷ []) mt))')
     c.drop('own-m')
 
 
 def key_fetches(c):
     c.line('left = processes_of(after)')
     c.push('nothing ! $', 'end')
-    c.call('processes_of', 'end', '(to-processes-of m)', '(goes-processes-of m (subst (λ (w : List Val). Is N.the-row m w) (LL.tells N.the-type N′.the-laws m (w₃ ∷ []) mt) mt))', [AFTER_], 'tt (m, tt)', ('t', 'List Process', 'RA', 'w₄'))
-    c.hears('(t ≡ m .processes)', '(processes-are 𝓤 H A mem run m t)', 'left')
-    c.split('back', 'end', 'own-t')
+    c.call('processes_of', 'end', '(to-processes-of m)', '(goes-processes-of m (subst (λ (w : List Val). Is N.the-row m w) (LL.tells N.the-type N′.the-laws m (w₄ ∷ []) mt) mt))', [AFTER_], 'tt (m, tt)', ('ps', 'List Process', 'RA', 'w₅'))
+    c.hears('(ps ≡ m .processes)', '(processes-are 𝓤 H A mem run m ps)', 'left')
+    c.split('back', 'end', 'own-ps')
     c.drop('end')
-    c.peek('t', 'RA', '(w₄ ∷ [])', 'tt′')
-    c.land(LEFT, table_typed('t', 'tt′'))
-    c.drop('own-t')
+    c.peek('ps', 'RA', '(w₅ ∷ [])', 'pt')
+    c.land(LEFT, table_typed('ps', 'pt'))
+    c.drop('own-ps')
 
 
 def key_gives(c):
     c.line('give(records, n, left): the borrow goes to the callee for good')
     c.lend_on(2, LENT, GIVEN_, 'room₁ .0')
     c.join('token1', 'own1', 'handed')
-    c.call('give', 'handed', '(to-give n t w₄)', '(goes-give n t w₄ (nt .1) tt′ (count .1, count .2))', [GIVEN_, N_, LEFT], '(κ₁, tt) (x₁, (n, (t, tt)))', ('z', 'Unit {0}', 'Nothing', 'w₅'), tokens_of([1]))
-    pick_lasts(c, 'give', 'zs', ['List Process', 'Unit {0}', 'Unit {0}'], '(κ₁, tt) (x₁, (n, (t, tt)))', {1: 0}, 'zs .0 ≡ laid n t records', 'given')
+    c.call('give', 'handed', '(to-give n ps w₅)', '(goes-give n ps w₅ (nt .1) pt (count .1, count .2))', [GIVEN_, N_, LEFT], '(κ₁, tt) (x₁, (n, (ps, tt)))', ('z', 'Unit {0}', 'Nothing', 'w₆'), tokens_of([1]))
+    pick_lasts(c, 'give', 'zs', ['List Process', 'Unit {0}', 'Unit {0}'], '(κ₁, tt) (x₁, (n, (ps, tt)))', {1: 0}, 'zs .0 ≡ laid n ps records', 'given')
     c.split('back', 'tokens', 'own-z')
-    c.peek('z', 'Nothing', '(w₅ ∷ [])', 'zt')
+    c.peek('z', 'Nothing', '(w₆ ∷ [])', 'zt')
     c.land(UNIT, '(nothing-lawful 𝓤 H A W .typed z _ zt .0)')
     c.drop('own-z')
     c.apart('tokens', ['token1'])
@@ -280,7 +285,7 @@ def key_leaves(c):
     c.push('owned ! O.the-row (Is O.the-row) (LE.makes O.the-type O′.the-plain 𝓤 H A) (m .outcome) _ (outcome-is m mt) $', 'result')
     c.keep([f'token{k}' for k in ALL] + ['copy0'] + [f'last{k}' for k in [1, 2, 3, 4]] + ['result'])
     c.line()
-    c.write(f'by ! (exits (m .outcome) _ (zs .0) {BUFFERS} (joined file records words log answers {" ".join(NUMBER_NAMES)} n u m (zs .0) {BUFFERS} (count .0) taken pressed-is (given ∙ ap (λ (l : List Process). laid n l records) left)) len₁ len₂ len₃ len₄)')
+    c.write(f'by ! (exits (m .outcome) _ (zs .0) {BUFFERS} (joined file records words log answers stroke n u t m (zs .0) {BUFFERS} (count .0) taken (same-table t n u tabled) pressed-is (given ∙ ap (λ (l : List Process). laid n l records) left)) len₁ len₂ len₃ len₄)')
 
 
 def key_walk():
@@ -288,6 +293,7 @@ def key_walk():
     key_counts(c)
     key_shows(c)
     key_takes(c)
+    key_tables(c)
     key_presses(c)
     key_fetches(c)
     key_gives(c)
@@ -300,12 +306,11 @@ def press_values():
     return {
         'press-lifetimes': PRESS_LIFETIMES,
         'press-shares': tuple_of([Q[k] for k in PRESS_SLICES]),
-        'press-types': type_of(['RefT (List ℕ)', 'ℕ', 'List Process'] + ['RefT (List ℕ)'] * 3 + ['ℕ'] * COUNT),
-        'press-args': tuple_of(['x₀', 'n', 'u', 'x₂', 'x₃', 'x₄'] + NUMBER_NAMES),
-        'press-values': tuple_of(['s₀ ∷ []', 'vint w64 n ∷ []', 'w ∷ []', 's₂ ∷ []', 's₃ ∷ []', 's₄ ∷ []'] + NUMBER_VALUES),
+        'press-types': type_of(['RefT (List ℕ)', 'Table'] + ['RefT (List ℕ)'] * 3 + ['Stroke']),
+        'press-args': tuple_of(['x₀', 't', 'x₂', 'x₃', 'x₄', 'stroke']),
+        'press-values': tuple_of(['s₀ ∷ []', 'w ∷ []', 's₂ ∷ []', 's₃ ∷ []', 's₄ ∷ []', 'v-stroke ∷ []']),
         'press-given': items(PRESS_GIVEN),
         'press-asks': press_asked(),
-        'pressed': PRESSED,
     }
 
 
@@ -314,6 +319,7 @@ def key_said():
     return {
         'held-of': said('held', 'held-of', '(size n : ℕ)', 'tt', '(size, tt)', 'n', '((n ≡ min size 16) × (n ≤ 16) × (n ≤ size))'),
         'take-of': said('take', 'take-of', '(κ : Lft) (x : RefT (List Process) × (ℕ × Unit {0})) (r : List Process)', '(κ, tt)', 'x', 'r', '(r ≡ laid (x .1 .0) (x .0 .now) blank)'),
+        'table-is': said('table_of', 'table-is', '(u : List Process) (n : ℕ) (r : Table)', 'tt', '(u, (n, tt))', 'r', '((r .processes ≡ u) × (r .held ≡ n))'),
         'processes-are': said('processes_of', 'processes-are', '(m : After) (r : List Process)', 'tt', '(m, tt)', 'r', '(r ≡ m .processes)'),
     }
 
@@ -324,32 +330,34 @@ def entered(callees, slices, table=''):
     return f"""via 𝓤 _ (fst∗ 𝓤 _ (emp 𝓤))
       (walk 𝓤 H A W mem run {' '.join(f'({part("κs", k)})' for k in range(count))} {' '.join(f'({part("qs", k)})' for k in range(count))}
       {handed_slices(slices)}{table}
-      {handed_numbers(5)} C Λ fm {' '.join(CONTRACTS[x][1] for x in callees)} {' '.join(f'({part("are", k)} .0 .1)' for k in slices)})"""
+      {handed_key(5)} C Λ fm {' '.join(CONTRACTS[x][1] for x in callees)} {' '.join(f'({part("are", k)} .0 .1)' for k in slices)})"""
 
 
 def key_closing(callees, params):
-    tells = [f'{"shr" if k == 0 else "mut"}-slice-tells (named {k}) ({part("κs", k)}) {ELEMENTS[k]}' for k in ALL] + NUMBER_TELLS
-    return closing('key', callees, 5, params, ['slice-vals'] * 5 + NUMBER_VALS, tells, entered(callees, ALL), False)
+    tells = [f'{"shr" if k == 0 else "mut"}-slice-tells (named {k}) ({part("κs", k)}) {ELEMENTS[k]}' for k in ALL] + [KEY_TELLS]
+    return closing('key', callees, 5, params, ['slice-vals'] * 5 + [KEY_VALS], tells, entered(callees, ALL), False)
 
 
 def key():
-    callees = ['held', 'take', 'press', 'processes_of', 'give']
-    params = [('seen', 0, 'u8')] + [('given', k, ELEMENTS[k]) for k in [1, 2, 3, 4]] + NUMBER_PARAMS
+    callees = ['held', 'take', 'table_of', 'press', 'processes_of', 'give']
+    params = [('seen', 0, 'u8')] + [('given', k, ELEMENTS[k]) for k in [1, 2, 3, 4]] + [KEY_PARAM]
     write('key', callees, {
         **press_values(),
         **key_said(),
         'stayed': stayed(params),
         'contracts': '\n'.join(contract(x) for x in callees),
         'binders': binders(ALL),
-        'numbers': NUMBER_BINDERS,
+        'key': KEY_BINDERS,
         'frame': frame_of(ALL, False),
         'keyed': KEYED,
         'after': AFTER,
         'left': items(KEY_LEFT),
-        'lasts': tuple_of(['tt'] + AFTER.split() + ['tt'] * COUNT),
-        'lengths': tuple_of(['tt', 'len₁', 'len₂', 'len₃', 'len₄'] + ['tt'] * COUNT),
+        'lasts': tuple_of(['tt'] + AFTER.split() + ['tt']),
+        'lengths': tuple_of(['tt', 'len₁', 'len₂', 'len₃', 'len₄'] + ['tt']),
         'exit': key_exit(),
         'own-length': own_number('(length records)', 'room .0'),
+        'own-n': own_number('n', 'n-fits'),
+        'own-array': own_table('u', 'ut'),
         'take-asks': take_asked(),
         'give-given': items([token(1), own_slice(1)]),
         'give-asks': give_asked(),
@@ -357,10 +365,10 @@ def key():
         'room-types': room_types(ALL),
         'lifetimes': tuple_of(K),
         'shares': tuple_of(Q),
-        'passed': items(S + NUMBER_PASSED),
+        'passed': items(S + ['v-stroke']),
         'rooms': ' '.join(ROOMS),
         'tokens': tokens_of(ALL),
-        'rows': items([slice_type(k, k) for k in ALL] + NUMBER_TYPES),
+        'rows': items([slice_type(k, k) for k in ALL] + ['S.the-row']),
         'walk': key_walk(),
         'closing': key_closing(callees, params),
     })
@@ -370,9 +378,9 @@ def key():
 
 OWN_SLICES = [0, 2, 3, 4]
 LIFETIME = {0: 0, 2: 1, 3: 2, 4: 3}
-TABLE_SIZE = 17 + COUNT
+TABLE_SIZE = 18
 # its locals after the result and the parameters: the records in memory, the outcome; a reference and a slice for each slice; the records again
-RECORDS, OUTCOME, REF, ON_RECORDS, ON_WORDS, ON_LOG, ON_ANSWERS, AGAIN = [6 + COUNT + k for k in [0, 1, 2, 3, 5, 7, 9, 10]]
+RECORDS, OUTCOME, REF, ON_RECORDS, ON_WORDS, ON_LOG, ON_ANSWERS, AGAIN = 7, 8, 9, 10, 12, 14, 16, 17
 MEMORY = local(RECORDS)
 TABLE_KEYED = KEYED.replace('records', 'processes')
 TABLE_AFTER = AFTER.split()[1:]
@@ -398,13 +406,13 @@ ON_LEFT = [token(k) for k in OWN_SLICES] + [own_here(0)] + [last(k) for k in [2,
 def table_exit():
     lasts = [f'last{k}' for k in [2, 3, 4]]
     tokens = [f'token{k}' for k in OWN_SLICES]
-    return left(tokens + ['own0'] + lasts + ['result'], tokens, ['own0', own_table('processes', 'table-is')] + lasts + NUMBER_OWNS)
+    return left(tokens + ['own0'] + lasts + ['result'], tokens, ['own0', own_table('processes', 'table-is')] + lasts + [OWN_KEY])
 
 
 def key_asked():
     g = Walk(ON_NAMES, 0, 6)
     g.tokens(ON_NAMES[:5])
-    g.owning(ON_NAMES[5:] + NUMBER_OWNS)
+    g.owning(ON_NAMES[5:] + [OWN_KEY])
     g.join('tokens', 'has', 'all')
     g.give_up()
     g.write('done !')
@@ -419,8 +427,7 @@ def table_enters():
     c.param(2, table_typed('processes', 'table-is'))
     for k in [2, 3, 4]:
         c.param(k + 1, slice_typed(f'{ROOMS[k]} .0'))
-    for k, n in enumerate(NUMBER_NAMES):
-        c.param(k + 6, number_typed(n + '-fits'))
+    c.param(6, struct_typed('S', 'stroke', 'stroke-is'))
     c.write('pass0 ! $ ')
     c.line('what the parameters own, and the tokens, are taken apart; what the file owns is had twice, for `key` and for the exit')
     c.fapart('owns', ['own0', 'table', 'own2', 'own3', 'own4'])
@@ -468,10 +475,10 @@ def table_lends(c):
 def table_keys(c):
     c.line('outcome = key(file, records, words, ..)')
     handed_on(c, ON_NAMES)
-    applied = f'(κ₀, (ν ∷ [], (κ₂, (κ₃, (κ₄, tt))))) {tuple_of(["x₀", f"lent-as {MEMORY} δ", "x₂", "x₃", "x₄"] + NUMBER_NAMES)}'
-    says = f'Leaves ({TABLE_KEYED}) r {TABLE_LEFT} {BUFFERS_LEFT}'
-    c.call('key', 'handed', f'(to-key {MEMORY} ν δ)', f'(goes-key {MEMORY} ν δ)', [1, ON_RECORDS, ON_WORDS, ON_LOG, ON_ANSWERS] + [6 + k for k in range(COUNT)], applied, ('r', 'Outcome', 'O.the-row', 'w₁'), tokens_of([2, 3, 4], [token(0), '‵ (flft (ν ∷ []) fullShare)']))
-    pick_lasts(c, 'key', 'vs', ['Unit {0}', 'List Process', 'List ℕ', 'List ℕ', 'List ℕ'] + ['Unit {0}'] * COUNT, applied, {1: 1, 2: 2, 3: 3, 4: 4}, says, 'is')
+    applied = f'(κ₀, (ν ∷ [], (κ₂, (κ₃, (κ₄, tt))))) {tuple_of(["x₀", f"lent-as {MEMORY} δ", "x₂", "x₃", "x₄", "stroke"])}'
+    says = f'{TABLE_KEYED} r {TABLE_LEFT} {BUFFERS_LEFT}'
+    c.call('key', 'handed', f'(to-key {MEMORY} ν δ)', f'(goes-key {MEMORY} ν δ)', [1, ON_RECORDS, ON_WORDS, ON_LOG, ON_ANSWERS, 6], applied, ('r', 'Outcome', 'O.the-row', 'w₁'), tokens_of([2, 3, 4], [token(0), '‵ (flft (ν ∷ []) fullShare)']))
+    pick_lasts(c, 'key', 'vs', ['Unit {0}', 'List Process', 'List ℕ', 'List ℕ', 'List ℕ'] + ['Unit {0}'], applied, {1: 1, 2: 2, 3: 3, 4: 4}, says, 'is')
     c.split('back', 'tokens', 'own-r')
     c.apart('tokens', ['token0', 'token', 'token2', 'token3', 'token4'])
     c.peek('r', 'O.the-row', '(w₁ ∷ [])', 'rt')
@@ -519,7 +526,7 @@ def table_leaves(c):
     c.leave(range(TABLE_SIZE))
     c.keep([f'token{k}' for k in OWN_SLICES] + ['copy0'] + [f'last{k}' for k in [2, 3, 4]] + ['own-m'])
     c.line()
-    c.write(f'by ! (exits m w₂ {BUFFERS_LEFT} (joined-table ({TABLE_KEYED}) r {TABLE_LEFT} {BUFFERS_LEFT} m is made) len₂ len₃ len₄)')
+    c.write(f'by ! (exits m w₂ {BUFFERS_LEFT} (joined-table (keyed file processes words log answers stroke) r {TABLE_LEFT} {BUFFERS_LEFT} m is made) len₂ len₃ len₄)')
 
 
 def table_walk():
@@ -536,8 +543,8 @@ def key_values():
     return {
         'key-lifetimes': tuple_of(['κ₀', 'ν ∷ []', 'κ₂', 'κ₃', 'κ₄']),
         'key-shares': tuple_of(['q₀', 'fullShare', 'q₂', 'q₃', 'q₄']),
-        'key-args': tuple_of(['x₀', 'lent-as l δ', 'x₂', 'x₃', 'x₄'] + NUMBER_NAMES),
-        'key-values': tuple_of(['s₀ ∷ []', 'sliceVal (l, 0) (length processes) ∷ []', 's₂ ∷ []', 's₃ ∷ []', 's₄ ∷ []'] + NUMBER_VALUES),
+        'key-args': tuple_of(['x₀', 'lent-as l δ', 'x₂', 'x₃', 'x₄', 'stroke']),
+        'key-values': tuple_of(['s₀ ∷ []', 'sliceVal (l, 0) (length processes) ∷ []', 's₂ ∷ []', 's₃ ∷ []', 's₄ ∷ []', 'v-stroke ∷ []']),
         'key-given': items(ON_GIVEN),
         'asks': key_asked(),
         'keyed': TABLE_KEYED,
@@ -545,36 +552,36 @@ def key_values():
 
 
 def table_closing(callees, params):
-    tells = ['shr-slice-tells (named 0) (κs .0) u8', 'array-tells R vals (LL.tells T.the-type T′.the-laws) 16'] + [f'mut-slice-tells (named {LIFETIME[k]}) ({part("κs", LIFETIME[k])}) u32' for k in [2, 3, 4]] + NUMBER_TELLS
+    tells = ['shr-slice-tells (named 0) (κs .0) u8', 'array-tells R vals (LL.tells T.the-type T′.the-laws) 16'] + [f'mut-slice-tells (named {LIFETIME[k]}) ({part("κs", LIFETIME[k])}) u32' for k in [2, 3, 4]] + [KEY_TELLS]
     table = f' ({part("a", 1)}) (only (array-vals vals ({part("a", 1)}))) ({part("are", 1)})'
-    return closing('key_on_table', callees, 4, params, ['slice-vals', 'array-vals vals'] + ['slice-vals'] * 3 + NUMBER_VALS, tells, entered(callees, OWN_SLICES, table), False)
+    return closing('key_on_table', callees, 4, params, ['slice-vals', 'array-vals vals'] + ['slice-vals'] * 3 + [KEY_VALS], tells, entered(callees, OWN_SLICES, table), False)
 
 
 def key_on_table():
     callees = ['key', 'after_of']
-    params = [('seen', 0, 'u8'), ('plain', 'RA')] + [('given', LIFETIME[k], 'u32') for k in [2, 3, 4]] + NUMBER_PARAMS
+    params = [('seen', 0, 'u8'), ('plain', 'RA')] + [('given', LIFETIME[k], 'u32') for k in [2, 3, 4]] + [KEY_PARAM]
     write('key_on_table', callees, {
         **key_values(),
         'stayed': stayed(params),
         'contracts': '\n'.join(contract(x) for x in callees),
         'after-is': said('after_of', 'after-is', '(t : List Process) (o : Outcome) (r : After)', 'tt', '(t, (o, tt))', 'r', '((r .processes ≡ t) × (r .outcome ≡ o))'),
         'binders': binders(OWN_SLICES),
-        'numbers': NUMBER_BINDERS,
+        'key': KEY_BINDERS,
         'frame': frame_of(OWN_SLICES, True),
         'after': ' '.join(TABLE_AFTER),
         'left': items(ON_LEFT),
-        'lasts': tuple_of(['tt', 'tt'] + TABLE_AFTER + ['tt'] * COUNT),
-        'lengths': tuple_of(['tt', 'tt', 'len₂', 'len₃', 'len₄'] + ['tt'] * COUNT),
+        'lasts': tuple_of(['tt', 'tt'] + TABLE_AFTER + ['tt']),
+        'lengths': tuple_of(['tt', 'tt', 'len₂', 'len₃', 'len₄'] + ['tt']),
         'exit': table_exit(),
         'own-table': own_table('u', 'ut'),
         'known': ' '.join(known(x, 'C') for x in callees),
         'room-types': room_types(OWN_SLICES),
         'lifetimes': tuple_of([K[k] for k in OWN_SLICES]),
         'shares': tuple_of([Q[k] for k in OWN_SLICES]),
-        'passed': items([S[0], 'v'] + [S[k] for k in [2, 3, 4]] + NUMBER_PASSED),
+        'passed': items([S[0], 'v'] + [S[k] for k in [2, 3, 4]] + ['v-stroke']),
         'rooms': ' '.join(ROOMS[k] for k in OWN_SLICES),
         'tokens': tokens_of(OWN_SLICES),
-        'rows': items([slice_type(0, 0), 'RA'] + [slice_type(k, LIFETIME[k]) for k in [2, 3, 4]] + NUMBER_TYPES),
+        'rows': items([slice_type(0, 0), 'RA'] + [slice_type(k, LIFETIME[k]) for k in [2, 3, 4]] + ['S.the-row']),
         'walk': table_walk(),
         'closing': table_closing(callees, params),
     })

@@ -3,9 +3,6 @@
 CRATE = 'panel'
 SIZE = 44  # bytes of a record, as `rt mir panel` prints them: (mul unsigned) .. (int 64 44); also in proofs/Laying.antt
 
-# The numbers that come with the key, the last parameters of `press`, `key` and `key_on_table`: name in the proofs, type, width.
-NUMBERS = [('byte', 'u8', 8), ('position', 'usize', 64), ('logRows', 'usize', 64), ('answerRows', 'usize', 64)]
-
 # the module of the source in which a function stands, where it is not the root
 MODULE = {'take': 'records.', 'give': 'records.', 'held': 'records.', 'empty': 'records.', 'record_at': 'records.', 'with_record': 'records.', 'press': 'press.'}
 # how the proofs call a callee's contract, and the hypothesis that it is met
@@ -18,7 +15,8 @@ CONTRACTS = {
     'empty': ('Empty', 'known-empty'),
     'record_at': ('RecordAt', 'known-record-at'),
     'with_record': ('WithRecord', 'known-with-record'),
-    'key': ('Key', 'known-key'),
+    'key': ('OneKey', 'known-key'),
+    'table_of': ('TableOf', 'known-table-of'),
     'after_of': ('AfterOf', 'known-after-of'),
 }
 
@@ -42,6 +40,15 @@ def own_number(n, fits, ty='usize', width=64):
 
 def own_table(t, is_):
     return f'owned ! RA (Is RA) {TABLE_MADE} {t} _ {is_}'
+
+
+def own_struct(module, x, is_):
+    """A struct that holds no reference, by the module of its type."""
+    return f'owned ! {module}.the-row (Is {module}.the-row) (LL.makes {module}.the-type {module}′.the-plain 𝓤 H A) {x} _ {is_}'
+
+
+def struct_typed(module, x, is_):
+    return f'(LL.lawful {module}.the-type {module}′.the-laws 𝓤 H A W .typed {x} _ {is_} .0)'
 
 
 def own_record(p, is_):

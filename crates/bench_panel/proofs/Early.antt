@@ -9,20 +9,21 @@ use Rattle.panel.specs.declared.Outcome.the-variants.{Went, Refused}
 use Rattle.panel.specs.declared.Verdict.{Verdict}
 use Rattle.panel.specs.declared.Verdict.the-variants.{Fine, Not}
 use Rattle.panel.specs.declared.Why.{Why}
-use Rattle.panel.specs.Press.{Pressing, Lent, pressing, lent, verdictOf, pressedAs, pressed}
+use Rattle.run.specs.Run.{roomOf}
+use Rattle.panel.specs.declared.Stroke.{Stroke}
+use Rattle.panel.specs.declared.Table.{Table}
+use Rattle.panel.specs.Press.{lent, verdictOf, pressedAs, pressed}
 use Rattle.panel.specs.Key.{keyed}
 use Rattle.panel.specs.Fits.{fit}
 
 not-went : {why : Why} {at m n : ℕ} → Refused why at ≡ Went m n → ⊥
 not-went e = let z : _≡_ {A = ℕ} 0 1 = cc in omega arith
 
-went : (f : List ℕ) (n : ℕ) (k : Pressing) (l : Lent) (v : Verdict) (logRows answerRows : ℕ)
-    → verdictOf f n k l ≡ v → pressedAs v f k l .outcome ≡ Went logRows answerRows → k .position ≤ 1023
-went f n k l (Not why place) logRows answerRows q e = absurd (not-went e)
-went f n k l (Fine h) logRows answerRows q e = fit f n k l h q .early
+went : (f : List ℕ) (t : Table) (words log answers : List ℕ) (k : Stroke) (v : Verdict) (m n : ℕ)
+    → verdictOf f t (roomOf words log answers) k ≡ v → pressedAs v f (lent (t .processes) words log answers) k .outcome ≡ Went m n → k .position ≤ 1023
+went f t words log answers k (Not why place) m n q e = absurd (not-went e)
+went f t words log answers k (Fine h) m n q e = fit f t (roomOf words log answers) k h q .early
 
-pub early : (file : List ℕ) (records : List Process) (words log answers : List ℕ) (byte position logRows answerRows logRows′ answerRows′ : ℕ)
-    → keyed file records words log answers byte position logRows answerRows .outcome ≡ Went logRows′ answerRows′ → position ≤ 1023
+pub early : (file : List ℕ) (records : List Process) (words log answers : List ℕ) (k : Stroke) (m n : ℕ) → keyed file records words log answers k .outcome ≡ Went m n → k .position ≤ 1023
 unfolding keyed pressed
-early file records words log answers byte position logRows answerRows logRows′ answerRows′ e =
-    went file (length records) (pressing byte position logRows answerRows) (lent records words log answers) _ logRows′ answerRows′ refl e
+early file records words log answers k m n e = went file (record { processes = records; held = length records }) words log answers k _ m n refl e

@@ -13,6 +13,7 @@ use lines::put_name;
 use lines::put_number;
 use machine::Process;
 use panel::Outcome;
+use panel::Stroke;
 use runfile::Checked;
 use runfile::Header;
 use runfile::Room;
@@ -75,17 +76,13 @@ fn carry_out(file: &[u8], bench: Bench, log: &mut [u32], answers: &mut [u32], by
     let processes = bench.processes;
     let mut words = bench.words;
     let position = bench.position;
-    let after = panel::key_on_table(
-        file,
-        processes,
-        &mut words,
-        log,
-        answers,
+    let key = Stroke {
         byte,
         position,
-        bench.log,
-        bench.answers,
-    );
+        log: bench.log,
+        answers: bench.answers,
+    };
+    let after = panel::key_on_table(file, processes, &mut words, log, answers, key);
     let outcome = after.outcome;
     match outcome {
         Outcome::Refused(_, _) => Pressed { bench, outcome },

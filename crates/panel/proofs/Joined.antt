@@ -1,15 +1,17 @@
 -- What the callees of `key` and of `key_on_table` say comes to what those promise: the only steps of the walks that are about the specification.
-use mathlib.Core.Path.{_≡_, _∙_, ap, subst}
-use Prim.Native.Nat.{ℕ, min}
+use mathlib.Core.Path.{_≡_, _∙_, ap, ap₂, subst}
+use Prim.Native.Nat.{ℕ, _≤_, min}
 use mathlib.Core.List.{List}
 use lib.ListN.{length}
 use Rattle.machine.specs.declared.Process.{Process}
 use Rattle.panel.specs.declared.Outcome.{Outcome}
 use Rattle.panel.specs.declared.After.{After}
 use Rattle.panel.specs.Laid.{blank, laid}
+use Rattle.panel.specs.declared.Stroke.{Stroke}
+use Rattle.panel.specs.declared.Table.{Table}
 use Rattle.panel.specs.Press.{Pressed, Leaves, pressed}
-use Rattle.panel.specs.Key.{keyed}
-use Rattle.panel.proofs.Table.{givenBack, keyed-is}
+use Rattle.panel.specs.Promises.{Keyed, PressedOn}
+use Rattle.panel.proofs.Sixteen.{givenBack, keyed-is}
 
 -- with the table laid back into the lent list
 laid-back : (n : ℕ) (records records′ : List Process) (p : Pressed) (r : Outcome) (processes : List Process) (words log answers : List ℕ)
@@ -22,15 +24,34 @@ laid-back n records records′ p r processes words log answers l e = record {
   answers-are = l .answers-are;
 }
 
-module _ (file : List ℕ) (records : List Process) (words log answers : List ℕ) (byte position logRows answerRows : ℕ) where
-  pub joined : (n : ℕ) (u : List Process) (after : After) (records′ : List Process) (words′ log′ answers′ : List ℕ) → n ≡ min (length records) 16 → u ≡ laid n records blank
-      → Leaves (pressed file n u words log answers byte position logRows answerRows) (after .outcome) (after .processes) words′ log′ answers′ → records′ ≡ laid n (after .processes) records
-      → Leaves (keyed file records words log answers byte position logRows answerRows) (after .outcome) records′ words′ log′ answers′
-  joined n u after records′ words′ log′ answers′ n-is u-is l e =
-      subst (λ (p : Pressed). Leaves p (after .outcome) records′ words′ log′ answers′) (keyed-is file records words log answers byte position logRows answerRows)
-      (subst (λ (k : ℕ). Leaves (givenBack k records (pressed file k (laid k records blank) words log answers byte position logRows answerRows)) (after .outcome) records′ words′ log′ answers′) n-is
-      (laid-back n records records′ (pressed file n (laid n records blank) words log answers byte position logRows answerRows) (after .outcome) (after .processes) words′ log′ answers′
-      (subst (λ (t : List Process). Leaves (pressed file n t words log answers byte position logRows answerRows) (after .outcome) (after .processes) words′ log′ answers′) u-is l) e))
+-- sixteen records, of which the first n are the caller's
+abbrev pub table-of : ℕ → List Process → Table
+table-of n processes = record { processes = processes; held = n }
+
+-- what `table_of` says
+pub same-table : (t : Table) (n : ℕ) (processes : List Process) → (t .processes ≡ processes) × (t .held ≡ n) → t ≡ table-of n processes
+same-table t n processes e = ap₂ (λ (ps : List Process) (m : ℕ). table-of m ps) (e .0) (e .1)
+
+pub small-table : (t : Table) (n : ℕ) → t .held ≡ n → n ≤ 16 → t .held ≤ 16
+small-table t n e small = rw e small
+
+module _ (file : List ℕ) (records : List Process) (words log answers : List ℕ) (key : Stroke) where
+  -- over a table that `take` has filled, of which the first n are laid back
+  over : (n : ℕ) → n ≡ min (length records) 16 → (after : After) (records′ : List Process) (words′ log′ answers′ : List ℕ)
+      → PressedOn file (table-of n (laid n records blank)) words log answers key after words′ log′ answers′ → records′ ≡ laid n (after .processes) records
+      → Keyed file records words log answers key (after .outcome) records′ words′ log′ answers′
+  over n n-is after records′ words′ log′ answers′ l e =
+      subst (λ (p : Pressed). Leaves p (after .outcome) records′ words′ log′ answers′) (keyed-is file records words log answers key)
+      (subst (λ (m : ℕ). Leaves (givenBack m records (pressed file (table-of m (laid m records blank)) words log answers key)) (after .outcome) records′ words′ log′ answers′) n-is
+      (laid-back n records records′ _ (after .outcome) (after .processes) words′ log′ answers′ l e))
+
+  pub joined : (n : ℕ) (u : List Process) (t : Table) (after : After) (records′ : List Process) (words′ log′ answers′ : List ℕ)
+      → n ≡ min (length records) 16 → u ≡ laid n records blank → t ≡ table-of n u
+      → PressedOn file t words log answers key after words′ log′ answers′ → records′ ≡ laid n (after .processes) records
+      → Keyed file records words log answers key (after .outcome) records′ words′ log′ answers′
+  joined n u t after records′ words′ log′ answers′ n-is u-is t-is l =
+      over n n-is after records′ words′ log′ answers′
+      (subst (λ (t : Table). PressedOn file t words log answers key after words′ log′ answers′) (t-is ∙ ap (table-of n) u-is) l)
 
 -- the table and the outcome, put into one struct
 pub joined-table : (p : Pressed) (r : Outcome) (processes : List Process) (words log answers : List ℕ) (after : After) → Leaves p r processes words log answers → (after .processes ≡ processes) × (after .outcome ≡ r)

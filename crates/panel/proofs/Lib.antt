@@ -1,6 +1,6 @@
 pub mod Tests
 pub mod Laying
-pub mod Table
+pub mod Sixteen
 pub mod Joined
 pub mod Ors
 pub mod Search

@@ -16,17 +16,20 @@ use Rattle.machine.specs.Laws.{Sane}
 use Rattle.machine.specs.Machine.{after}
 use Rattle.engine.specs.Part.{Runnable, Runs, stateLent}
 use Rattle.run.specs.Parts.{part-all, table-part, lined-part, words-part}
+use Rattle.run.specs.Run.{roomOf}
+use Rattle.panel.specs.declared.Stroke.{Stroke}
+use Rattle.panel.specs.declared.Table.{Table}
 use Rattle.panel.specs.declared.Outcome.{Outcome}
 use Rattle.panel.specs.declared.Outcome.the-variants.{Went, Refused}
 use Rattle.panel.specs.declared.Verdict.the-variants.{Fine, Not}
 use Rattle.panel.specs.declared.Why.{Why}
-use Rattle.panel.specs.Press.{Pressing, Lent, ample, pressing, lent, verdictOf, Fit, Leaves, stateOf, stepped, carried, pressed}
+use Rattle.panel.specs.Press.{Lent, ample, lent, verdictOf, Fit, Leaves, stateOf, stepped, carried, pressed}
 use Rattle.panel.specs.Fits.{each-possible, sane-of}
 
-module _ (h : Header) (f : List ℕ) (k : Pressing) (l : Lent) (ft : Fit h f k l) where
+module _ (h : Header) (f : List ℕ) (l : Lent) (k : Stroke) (ft : Fit h f (l .processes) (roomOf (l .words) (l .log) (l .answers)) k) where
   -- where a run stands before the key
   abbrev from : Standing
-  from = record { processes = l .processes; position = k .position; log = k .logRows; answers = k .answerRows }
+  from = record { processes = l .processes; position = k .position; log = k .log; answers = k .answers }
 
   -- the key as a part of a schedule
   abbrev partOf : (stride rows P : ℕ) → Part
@@ -61,7 +64,7 @@ module _ (h : Header) (f : List ℕ) (k : Pressing) (l : Lent) (ft : Fit h f k l
 
     -- and what it leaves is what the key comes to
     pub went : (r : Standing) (words log answers : List ℕ) → Runs (partOf stride n P) (take (length f - rows-at) (drop rows-at f)) (k .byte ∷ []) (l .words) (l .log) (l .answers) r words log answers
-        → Leaves (carried h f k l) (Went (r .log) (r .answers)) (r .processes) words log answers
+        → Leaves (carried h f l k) (Went (r .log) (r .answers)) (r .processes) words log answers
     unfolding stepped stateOf after stateLent
     went r words log answers left =
         let m = rw (part-all f rows-at, z, e, q, here, table-part h f) at left in
@@ -74,18 +77,15 @@ module _ (h : Header) (f : List ℕ) (k : Pressing) (l : Lent) (ft : Fit h f k l
         }
 
 -- the verdict decides
-module _ (f : List ℕ) (n : ℕ) (ps : List Process) (words log answers : List ℕ) (byte position m a : ℕ) where
-  abbrev k : Pressing
-  k = pressing byte position m a
-
+module _ (f : List ℕ) (t : Table) (words log answers : List ℕ) (k : Stroke) where
   abbrev l : Lent
-  l = lent ps words log answers
+  l = lent (t .processes) words log answers
 
-  pub was-refused : (why : Why) (at : ℕ) → verdictOf f n k l ≡ Not why at → Leaves (pressed f n ps words log answers byte position m a) (Refused why at) ps words log answers
+  pub was-refused : (why : Why) (at : ℕ) → verdictOf f t (roomOf words log answers) k ≡ Not why at → Leaves (pressed f t words log answers k) (Refused why at) (t .processes) words log answers
   unfolding pressed
   was-refused why at v = rw v (record { result = refl; processes-are = refl; words-are = refl; log-is = refl; answers-are = refl })
 
-  pub was-fine : (h : Header) → verdictOf f n k l ≡ Fine h → (r : Outcome) (t : List Process) (words′ log′ answers′ : List ℕ)
-      → Leaves (carried h f k l) r t words′ log′ answers′ → Leaves (pressed f n ps words log answers byte position m a) r t words′ log′ answers′
+  pub was-fine : (h : Header) → verdictOf f t (roomOf words log answers) k ≡ Fine h → (r : Outcome) (ps : List Process) (words′ log′ answers′ : List ℕ)
+      → Leaves (carried h f l k) r ps words′ log′ answers′ → Leaves (pressed f t words log answers k) r ps words′ log′ answers′
   unfolding pressed
-  was-fine h v r t words′ log′ answers′ c = rw v c
+  was-fine h v r ps words′ log′ answers′ c = rw v c

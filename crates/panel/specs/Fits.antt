@@ -9,6 +9,7 @@ use lib.ListN.{length, getD}
 use mathlib.Core.Logic.{_≢_}
 use borrow.Author.Tests.{ltb-false, leb-false, eqb-true, eqb-false, not-false}
 use Rattle.runfile.specs.declared.Header.{Header}
+use Rattle.runfile.specs.declared.Room.{Room}
 use Rattle.runfile.specs.declared.Row.{Row}
 use Rattle.runfile.specs.declared.Checked.{Checked}
 use Rattle.runfile.specs.declared.Checked.the-variants as checked
@@ -23,11 +24,13 @@ use Rattle.machine.specs.declared.Status.{Status}
 use Rattle.machine.specs.declared.Status.the-variants.{Down, Idle, N2, N3, Busy}
 use Rattle.machine.specs.Records.{nobody, WorkOpen, Announcing}
 use Rattle.machine.specs.Laws.{Sane}
+use Rattle.panel.specs.declared.Stroke.{Stroke}
+use Rattle.panel.specs.declared.Table.{Table}
 use Rattle.panel.specs.declared.Verdict.{Verdict}
 use Rattle.panel.specs.declared.Verdict.the-variants.{Fine, Not}
 use Rattle.panel.specs.declared.Why.{Why}
 use Rattle.panel.specs.Possible.{tooMany, notLast, openWhile, noneAt, noneLeft, misplaced, impossible, anyImpossible}
-use Rattle.panel.specs.Press.{Pressing, Lent, ample, andThen, roomy, sound, judged, judgedAs, verdictOf, Fit}
+use Rattle.panel.specs.Press.{ample, andThen, roomy, sound, judged, judgedAs, verdictOf, Fit}
 
 pub not-fine : {why : Why} {at : ℕ} {h : Header} → Not why at ≡ Fine h → ⊥
 not-fine e = let z : _≡_ {A = ℕ} 0 1 = cc in omega arith
@@ -45,52 +48,52 @@ both-fine (Not why at) next h e = absurd (not-fine e)
 both-fine (Fine g) next h e = ((g, refl), e)
 
 -- each test of 13 to 22, by which a key over a file with this header is not refused
-record Unrefused (h : Header) (f : List ℕ) (n : ℕ) (k : Pressing) (l : Lent) : Type 0 where
-  words : ltb (length (l .words)) (h .words) ≡ false
-  records : ltb n (h .processes) ≡ false
-  log : ltb (length (l .log)) (k .logRows * 5 + 5) ≡ false
-  answers : ltb (length (l .answers)) (k .answerRows * 5 + 5) ≡ false
+record Unrefused (h : Header) (f : List ℕ) (t : Table) (room : Room) (k : Stroke) : Type 0 where
+  words : ltb (room .words) (h .words) ≡ false
+  records : ltb (t .held) (h .processes) ≡ false
+  log : ltb (room .log) (k .log * 5 + 5) ≡ false
+  answers : ltb (room .answers) (k .answers * 5 + 5) ≡ false
   position : ltb 1023 (k .position) ≡ false
-  possible : anyImpossible (tableOf h f) (l .processes) 0 (h .processes) ≡ false
+  possible : anyImpossible (tableOf h f) (t .processes) 0 (h .processes) ≡ false
   byte : badByte (h .processes) (k .byte) ≡ false
 
-unrefused : (g : Header) (f : List ℕ) (n : ℕ) (k : Pressing) (l : Lent) (h : Header) → judged g f n k l ≡ Fine h → (g ≡ h) × Unrefused g f n k l
+unrefused : (g : Header) (f : List ℕ) (t : Table) (room : Room) (k : Stroke) (h : Header) → judged g f t room k ≡ Fine h → (g ≡ h) × Unrefused g f t room k
 unfolding judged
-unrefused g f n k l h e =
-    let b = both-fine (roomy g n k l) (sound g f (l .processes) (k .byte) (k .position)) h e in
-    let r1 = passed (ltb (length (l .words)) (g .words)) _ _ _ _ (b .0 .1) in
-    let r2 = passed (ltb n (g .processes)) _ _ _ _ (r1 .1) in
-    let r3 = passed (ltb (length (l .log)) (k .logRows * 5 + 5)) _ _ _ _ (r2 .1) in
-    let r4 = passed (ltb (length (l .answers)) (k .answerRows * 5 + 5)) _ _ _ _ (r3 .1) in
+unrefused g f t room k h e =
+    let b = both-fine (roomy g (t .held) room k) (sound g f (t .processes) k) h e in
+    let r1 = passed (ltb (room .words) (g .words)) _ _ _ _ (b .0 .1) in
+    let r2 = passed (ltb (t .held) (g .processes)) _ _ _ _ (r1 .1) in
+    let r3 = passed (ltb (room .log) (k .log * 5 + 5)) _ _ _ _ (r2 .1) in
+    let r4 = passed (ltb (room .answers) (k .answers * 5 + 5)) _ _ _ _ (r3 .1) in
     let s1 = passed (ltb 1023 (k .position)) _ _ _ _ (b .1) in
-    let s2 = passed (anyImpossible (tableOf g f) (l .processes) 0 (g .processes)) _ _ _ _ (s1 .1) in
+    let s2 = passed (anyImpossible (tableOf g f) (t .processes) 0 (g .processes)) _ _ _ _ (s1 .1) in
     let s3 = passed (badByte (g .processes) (k .byte)) _ _ _ _ (s2 .1) in
     (same-header (s3 .1), record { words = r1 .0; records = r2 .0; log = r3 .0; answers = r4 .0; position = s1 .0; possible = s2 .0; byte = s3 .0 })
 
 -- the list of records is long enough
-pub list-room : (g : Header) (f : List ℕ) (n : ℕ) (k : Pressing) (l : Lent) (h : Header) → judged g f n k l ≡ Fine h → h .processes ≤ n
-list-room g f n k l h e = let u = unrefused g f n k l h e in subst (λ h. h .processes ≤ n) (u .0) (ltb-false n (g .processes) (u .1 .records))
+pub list-room : (g : Header) (f : List ℕ) (t : Table) (room : Room) (k : Stroke) (h : Header) → judged g f t room k ≡ Fine h → h .processes ≤ t .held
+list-room g f t room k h e = let u = unrefused g f t room k h e in subst (λ h. h .processes ≤ t .held) (u .0) (ltb-false (t .held) (g .processes) (u .1 .records))
 
-module _ (f : List ℕ) (n : ℕ) (k : Pressing) (l : Lent) (h : Header) (e : verdictOf f n k l ≡ Fine h) where
+module _ (f : List ℕ) (t : Table) (room : Room) (k : Stroke) (h : Header) (e : verdictOf f t room k ≡ Fine h) where
   -- the file is accepted
-  pub fine-file : (refusalOf f ample ≡ checked.Accepted h) × (h .processes ≤ n)
+  pub fine-file : (refusalOf f ample ≡ checked.Accepted h) × (h .processes ≤ t .held)
   unfolding verdictOf
   fine-file = go (refusalOf f ample) refl e
     where
-      go : (c : Checked) → refusalOf f ample ≡ c → judgedAs c f n k l ≡ Fine h → (refusalOf f ample ≡ checked.Accepted h) × (h .processes ≤ n)
+      go : (c : Checked) → refusalOf f ample ≡ c → judgedAs c f t room k ≡ Fine h → (refusalOf f ample ≡ checked.Accepted h) × (h .processes ≤ t .held)
       go (checked.Refused why place) q e = absurd (not-fine e)
-      go (checked.Accepted g) q e = (q ∙ ap checked.Accepted (unrefused g f n k l h e .0), list-room g f n k l h e)
+      go (checked.Accepted g) q e = (q ∙ ap checked.Accepted (unrefused g f t room k h e .0), list-room g f t room k h e)
 
-  pub fit : Fit h f k l
+  pub fit : Fit h f (t .processes) room k
   unfolding verdictOf
   fit =
       let accepted = fine-file .0 in
-      let u = unrefused h f n k l h (subst (λ c. judgedAs c f n k l ≡ Fine h) accepted e) .1 in
+      let u = unrefused h f t room k h (subst (λ c. judgedAs c f t room k ≡ Fine h) accepted e) .1 in
       record {
         lawful = lawful f ample h accepted;
-        words-room = ltb-false (length (l .words)) (h .words) (u .words);
-        log-room = ltb-false (length (l .log)) (k .logRows * 5 + 5) (u .log);
-        answers-room = ltb-false (length (l .answers)) (k .answerRows * 5 + 5) (u .answers);
+        words-room = ltb-false (room .words) (h .words) (u .words);
+        log-room = ltb-false (room .log) (k .log * 5 + 5) (u .log);
+        answers-room = ltb-false (room .answers) (k .answers * 5 + 5) (u .answers);
         early = ltb-false 1023 (k .position) (u .position);
         possible = u .possible;
         action = u .byte;

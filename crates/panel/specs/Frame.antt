@@ -27,13 +27,16 @@ use Rattle.machine.specs.Laws.{getD-either}
 use Rattle.machine.specs.Machine.{State, effectOf, wordsAfter, turn, apply, applied, procAt, act, step}
 use Rattle.machine.specs.Steps.{stepTurn}
 use Rattle.machine.specs.OneByte as one
+use Rattle.run.specs.Run.{roomOf}
+use Rattle.panel.specs.declared.Stroke.{Stroke}
+use Rattle.panel.specs.declared.Table.{Table}
 use Rattle.panel.specs.declared.Outcome.the-variants.{Went, Refused}
 use Rattle.panel.specs.declared.Why.{Why}
 use Rattle.panel.specs.declared.Verdict.{Verdict}
 use Rattle.panel.specs.declared.Verdict.the-variants.{Fine, Not}
 use Rattle.panel.specs.Longer.{grows}
 use Rattle.panel.specs.Fits.{fit, fine-file}
-use Rattle.panel.specs.Press.{Pressing, Lent, pressing, lent, ample, verdictOf, stateOf, stepped, Pressed, carried, pressedAs, pressed, Fit}
+use Rattle.panel.specs.Press.{Lent, lent, ample, verdictOf, stateOf, stepped, Pressed, carried, pressedAs, pressed, Fit}
 use Rattle.panel.specs.Key.{keyed}
 
 -- a word that the row is not on
@@ -53,168 +56,165 @@ turn-word rows p t words log r status j n =
     word-stays rows log p t (rowOpen (r .opened)) (row .word) (stepTurn row p t (getD words (row .word) 0) (first rows p) (count rows p) r status) words j n
 
 -- what a key that is carried out leaves alone
-pub record Frame (h : Header) (f : List ℕ) (records : List Process) (words log answers : List ℕ) (byte logRows answerRows : ℕ) (p : Pressed) : Type 0 where
+pub record Frame (h : Header) (f : List ℕ) (l : Lent) (k : Stroke) (p : Pressed) : Type 0 where
   -- "the process not named left as it was unless the byte is F0"; records beyond the first P are never touched
-  pub others : (action byte ≡ crashesAll → ⊥) → (q : ℕ) → q ≢ named byte → getD (p .processes) q nobody ≡ getD records q nobody
-  pub past-P : drop (h .processes) (p .processes) ≡ drop (h .processes) records
-  pub all-records : length (p .processes) ≡ length records
+  pub others : (action (k .byte) ≡ crashesAll → ⊥) → (q : ℕ) → q ≢ named (k .byte) → getD (p .processes) q nobody ≡ getD (l .processes) q nobody
+  pub past-P : drop (h .processes) (p .processes) ≡ drop (h .processes) (l .processes)
+  pub all-records : length (p .processes) ≡ length (l .processes)
   -- a word other than that of the row on which the process named works
-  pub other-words : (w : ℕ) → w ≢ rowNumbered (tableOf h f) (rowOpen (getD records (named byte) nobody .opened)) .word → getD (p .words) w 0 ≡ getD words w 0
-  pub all-words : length (p .words) ≡ length words
+  pub other-words : (w : ℕ) → w ≢ rowNumbered (tableOf h f) (rowOpen (getD (l .processes) (named (k .byte)) nobody .opened)) .word → getD (p .words) w 0 ≡ getD (l .words) w 0
+  pub all-words : length (p .words) ≡ length (l .words)
   -- numbers beyond the rows, and the answers that were there
-  pub log-beyond : (i : ℕ) → logRows * 5 + 5 ≤ i → getD (p .log) i 0 ≡ getD log i 0
-  pub all-log : length (p .log) ≡ length log
-  pub answers-beyond : (i : ℕ) → answerRows * 5 + 5 ≤ i → getD (p .answers) i 0 ≡ getD answers i 0
-  pub answers-before : (i : ℕ) → i < answerRows * 5 → getD (p .answers) i 0 ≡ getD answers i 0
-  pub all-answers : length (p .answers) ≡ length answers
+  pub log-beyond : (i : ℕ) → k .log * 5 + 5 ≤ i → getD (p .log) i 0 ≡ getD (l .log) i 0
+  pub all-log : length (p .log) ≡ length (l .log)
+  pub answers-beyond : (i : ℕ) → k .answers * 5 + 5 ≤ i → getD (p .answers) i 0 ≡ getD (l .answers) i 0
+  pub answers-before : (i : ℕ) → i < k .answers * 5 → getD (p .answers) i 0 ≡ getD (l .answers) i 0
+  pub all-answers : length (p .answers) ≡ length (l .answers)
   -- a crash or a wake: only records change
-  pub only-steps : (action byte ≡ steps → ⊥) → (p .outcome ≡ Went logRows answerRows) × (p .words ≡ words) × (p .log ≡ log) × (p .answers ≡ answers)
+  pub only-steps : (action (k .byte) ≡ steps → ⊥) → (p .outcome ≡ Went (k .log) (k .answers)) × (p .words ≡ l .words) × (p .log ≡ l .log) × (p .answers ≡ l .answers)
 
-module _ (h : Header) (f : List ℕ) (records : List Process) (words log answers : List ℕ) (byte position logRows answerRows : ℕ) where
-  abbrev k : Pressing
-  k = pressing byte position logRows answerRows
-
+module _ (h : Header) (f : List ℕ) (records : List Process) (words log answers : List ℕ) (k : Stroke) where
   abbrev l : Lent
   l = lent records words log answers
 
   abbrev s : State
-  s = stateOf (h .processes) k l
+  s = stateOf (h .processes) l k
 
   abbrev P : ℕ
   P = h .processes
 
-  module _ (ft : Fit h f k l) (room : P ≤ length records) where
-    all-P : length (stepped h f k l .processes) ≡ P
+  module _ (ft : Fit h f records (roomOf words log answers) k) (room : P ≤ length records) where
+    all-P : length (stepped h f l k .processes) ≡ P
     unfolding stepped stateOf
-    all-P = grows (tableOf h f) position byte s .processes ∙ length-take-le P records room
+    all-P = grows (tableOf h f) (k .position) (k .byte) s .processes ∙ length-take-le P records room
 
-    past : drop P (carried h f k l .processes) ≡ drop P records
-    past = drop-at (stepped h f k l .processes) (drop P records) P all-P
+    past : drop P (carried h f l k .processes) ≡ drop P records
+    past = drop-at (stepped h f l k .processes) (drop P records) P all-P
 
-    other : (action byte ≡ crashesAll → ⊥) → (q : ℕ) → q ≢ named byte → getD (carried h f k l .processes) q nobody ≡ getD records q nobody
+    other : (action (k .byte) ≡ crashesAll → ⊥) → (q : ℕ) → q ≢ named (k .byte) → getD (carried h f l k .processes) q nobody ≡ getD records q nobody
     unfolding stepped stateOf procAt
     other not-all q n = go (ltb q P) refl
       where
-        among : q < P → getD (carried h f k l .processes) q nobody ≡ getD records q nobody
+        among : q < P → getD (carried h f l k .processes) q nobody ≡ getD records q nobody
         among i =
-            let j : q < length (stepped h f k l .processes) = rw all-P i in
-            List·getD-append (stepped h f k l .processes) (drop P records) nobody q j
-            ∙ getD-either (stepped h f k l .processes) q nobody fresh j
-            ∙ one.others (tableOf h f) position byte s not-all q n
+            let j : q < length (stepped h f l k .processes) = rw all-P i in
+            List·getD-append (stepped h f l k .processes) (drop P records) nobody q j
+            ∙ getD-either (stepped h f l k .processes) q nobody fresh j
+            ∙ one.others (tableOf h f) (k .position) (k .byte) s not-all q n
             ∙ getD-take P records q fresh i
             ∙ getD-either records q fresh nobody (omega arith)
 
-        go : (c : Bool) → ltb q P ≡ c → getD (carried h f k l .processes) q nobody ≡ getD records q nobody
+        go : (c : Bool) → ltb q P ≡ c → getD (carried h f l k .processes) q nobody ≡ getD records q nobody
         go true e = among (ltb-true q P e)
         go false e =
             let i : q ≡ P + (q - P) = (let g = ltb-false q P e in omega arith) in
-            rw i (sym (getD-drop P (carried h f k l .processes) (q - P) nobody) ∙ ap (λ ps. getD ps (q - P) nobody) past ∙ getD-drop P records (q - P) nobody)
+            rw i (sym (getD-drop P (carried h f l k .processes) (q - P) nobody) ∙ ap (λ ps. getD ps (q - P) nobody) past ∙ getD-drop P records (q - P) nobody)
 
     -- a step is one of a process below P
-    steps-below : action byte ≡ steps → named byte < P
+    steps-below : action (k .byte) ≡ steps → named (k .byte) < P
     unfolding badByte
-    steps-below e = leb-false P (named byte) (subst (λ a. badAction P (named byte) a ≡ false) e (ft .action))
+    steps-below e = leb-false P (named (k .byte)) (subst (λ a. badAction P (named (k .byte)) a ≡ false) e (ft .action))
 
-    mine : named byte < P → procAt (named byte) s ≡ getD records (named byte) nobody
+    mine : named (k .byte) < P → procAt (named (k .byte)) s ≡ getD records (named (k .byte)) nobody
     unfolding stateOf procAt
-    mine i = getD-take P records (named byte) fresh i ∙ getD-either records (named byte) fresh nobody (omega arith)
+    mine i = getD-take P records (named (k .byte)) fresh i ∙ getD-either records (named (k .byte)) fresh nobody (omega arith)
 
-    other-word : (w : ℕ) → w ≢ rowNumbered (tableOf h f) (rowOpen (getD records (named byte) nobody .opened)) .word → getD (stepped h f k l .words) w 0 ≡ getD words w 0
+    other-word : (w : ℕ) → w ≢ rowNumbered (tableOf h f) (rowOpen (getD records (named (k .byte)) nobody .opened)) .word → getD (stepped h f l k .words) w 0 ≡ getD words w 0
     unfolding stepped stateOf step act applied apply
-    other-word w n = go (action byte) refl
+    other-word w n = go (action (k .byte)) refl
       where
-        go : (a : Action) → action byte ≡ a → getD (act (tableOf h f) position a (named byte) s .words) w 0 ≡ getD words w 0
+        go : (a : Action) → action (k .byte) ≡ a → getD (act (tableOf h f) (k .position) a (named (k .byte)) s .words) w 0 ≡ getD words w 0
         go steps e =
-            turn-word (tableOf h f) (named byte) position words (s .log) (procAt (named byte) s) (procAt (named byte) s .status) w
+            turn-word (tableOf h f) (named (k .byte)) (k .position) words (s .log) (procAt (named (k .byte)) s) (procAt (named (k .byte)) s .status) w
             (subst (λ r. w ≢ rowNumbered (tableOf h f) (rowOpen (r .opened)) .word) (sym (mine (steps-below e))) n)
         go crashes e = refl
         go wakes e = refl
         go crashesAll e = refl
         go idles e = refl
 
-    counts : (length (stepped h f k l .log) ≤ logRows + 1) × (length (stepped h f k l .answers) ≤ answerRows + 1)
+    counts : (length (stepped h f l k .log) ≤ k .log + 1) × (length (stepped h f l k .answers) ≤ k .answers + 1)
     unfolding stepped stateOf
     counts =
-        let g = grows (tableOf h f) position byte s in
+        let g = grows (tableOf h f) (k .position) (k .byte) s in
         let a = g .log-one in
         let b = g .answers-one in
-        let c = length-rowsOf logRows log in
-        let d = length-rowsOf answerRows answers in
+        let c = length-rowsOf (k .log) log in
+        let d = length-rowsOf (k .answers) answers in
         (omega arith, omega arith)
 
     -- words and rows after a crash or a wake
-    untouched : (action byte ≡ steps → ⊥) → (carried h f k l .outcome ≡ Went logRows answerRows) × (carried h f k l .words ≡ words) × (carried h f k l .log ≡ log) × (carried h f k l .answers ≡ answers)
+    untouched : (action (k .byte) ≡ steps → ⊥) → (carried h f l k .outcome ≡ Went (k .log) (k .answers)) × (carried h f l k .words ≡ words) × (carried h f l k .log ≡ log) × (carried h f l k .answers ≡ answers)
     unfolding stepped stateOf
     untouched n =
-        let u = one.only-steps (tableOf h f) position byte s n in
+        let u = one.only-steps (tableOf h f) (k .position) (k .byte) s n in
         let a = ft .log-room in
         let b = ft .answers-room in (
-          ap₂ Went (ap length (u .log) ∙ length-rowsOf logRows log) (ap length (u .answers) ∙ length-rowsOf answerRows answers),
+          ap₂ Went (ap length (u .log) ∙ length-rowsOf (k .log) log) (ap length (u .answers) ∙ length-rowsOf (k .answers) answers),
           u .words,
-          ap (λ es. infront (flat es) log) (u .log) ∙ sym (rows-same logRows log (omega arith)),
-          ap (λ es. infront (flat es) answers) (u .answers) ∙ sym (rows-same answerRows answers (omega arith)),
+          ap (λ es. infront (flat es) log) (u .log) ∙ sym (rows-same (k .log) log (omega arith)),
+          ap (λ es. infront (flat es) answers) (u .answers) ∙ sym (rows-same (k .answers) answers (omega arith)),
         )
 
-    same-length : length (stepped h f k l .words) ≡ length words
+    same-length : length (stepped h f l k .words) ≡ length words
     unfolding stepped stateOf
-    same-length = grows (tableOf h f) position byte s .words
+    same-length = grows (tableOf h f) (k .position) (k .byte) s .words
 
     -- the answers that were there stand in front of a new one
-    kept-answers : stepped h f k l .answers ≡ rowsOf answerRows answers ++ drop answerRows (stepped h f k l .answers)
+    kept-answers : stepped h f l k .answers ≡ rowsOf (k .answers) answers ++ drop (k .answers) (stepped h f l k .answers)
     unfolding stepped stateOf
     kept-answers =
-        let u = step (tableOf h f) position byte s .answers in
-        sym (take-append-drop answerRows u)
-        ∙ ap (λ es. es ++ drop answerRows u) (ap (λ n. take n u) (sym (length-rowsOf answerRows answers)) ∙ grows (tableOf h f) position byte s .answers-kept)
+        let u = step (tableOf h f) (k .position) (k .byte) s .answers in
+        sym (take-append-drop (k .answers) u)
+        ∙ ap (λ es. es ++ drop (k .answers) u) (ap (λ n. take n u) (sym (length-rowsOf (k .answers) answers)) ∙ grows (tableOf h f) (k .position) (k .byte) s .answers-kept)
 
-    before : (i : ℕ) → i < answerRows * 5 → getD (carried h f k l .answers) i 0 ≡ getD answers i 0
+    before : (i : ℕ) → i < k .answers * 5 → getD (carried h f l k .answers) i 0 ≡ getD answers i 0
     unfolding infront
     before i g =
-        let more = drop answerRows (stepped h f k l .answers) in
-        let rest = drop (length (flat (stepped h f k l .answers))) answers in
-        let old = flat (rowsOf answerRows answers) in
-        let many : length old ≡ answerRows * 5 = length-flat (rowsOf answerRows answers) ∙ ap (λ n. n * 5) (length-rowsOf answerRows answers) in
+        let more = drop (k .answers) (stepped h f l k .answers) in
+        let rest = drop (length (flat (stepped h f l k .answers))) answers in
+        let old = flat (rowsOf (k .answers) answers) in
+        let many : length old ≡ k .answers * 5 = length-flat (rowsOf (k .answers) answers) ∙ ap (λ n. n * 5) (length-rowsOf (k .answers) answers) in
         let room = ft .answers-room in
-        ap (λ ns. getD (ns ++ rest) i 0) (ap flat kept-answers ∙ flat-append (rowsOf answerRows answers) more)
+        ap (λ ns. getD (ns ++ rest) i 0) (ap flat kept-answers ∙ flat-append (rowsOf (k .answers) answers) more)
         ∙ List·getD-append (old ++ flat more) rest 0 i (let e = length-append old (flat more) in omega arith)
         ∙ List·getD-append old (flat more) 0 i (omega arith)
-        ∙ ap (λ ns. getD ns i 0) (flat-rowsOf answerRows answers (omega arith))
-        ∙ getD-take (answerRows * 5) answers i 0 g
+        ∙ ap (λ ns. getD ns i 0) (flat-rowsOf (k .answers) answers (omega arith))
+        ∙ getD-take (k .answers * 5) answers i 0 g
 
-    frame-carried : Frame h f records words log answers byte logRows answerRows (carried h f k l)
+    frame-carried : Frame h f l k (carried h f l k)
     frame-carried = record {
       others = other;
       past-P = past;
-      all-records = length-append (stepped h f k l .processes) (drop P records) ∙ (let a = all-P in let b = length-drop P records in omega arith);
+      all-records = length-append (stepped h f l k .processes) (drop P records) ∙ (let a = all-P in let b = length-drop P records in omega arith);
       other-words = other-word;
       all-words = same-length;
-      log-beyond = λ i g. beyond (flat (stepped h f k l .log)) log i (let a = counts .0 in let b = length-flat (stepped h f k l .log) in omega arith);
-      answers-beyond = λ i g. beyond (flat (stepped h f k l .answers)) answers i (let a = counts .1 in let b = length-flat (stepped h f k l .answers) in omega arith);
+      log-beyond = λ i g. beyond (flat (stepped h f l k .log)) log i (let a = counts .0 in let b = length-flat (stepped h f l k .log) in omega arith);
+      answers-beyond = λ i g. beyond (flat (stepped h f l k .answers)) answers i (let a = counts .1 in let b = length-flat (stepped h f l k .answers) in omega arith);
       answers-before = before;
-      all-log = length-infront (flat (stepped h f k l .log)) log (let a = counts .0 in let b = length-flat (stepped h f k l .log) in let c = ft .log-room in omega arith);
-      all-answers = length-infront (flat (stepped h f k l .answers)) answers (let a = counts .1 in let b = length-flat (stepped h f k l .answers) in let c = ft .answers-room in omega arith);
+      all-log = length-infront (flat (stepped h f l k .log)) log (let a = counts .0 in let b = length-flat (stepped h f l k .log) in let c = ft .log-room in omega arith);
+      all-answers = length-infront (flat (stepped h f l k .answers)) answers (let a = counts .1 in let b = length-flat (stepped h f l k .answers) in let c = ft .answers-room in omega arith);
       only-steps = untouched;
     }
 
 -- refused: "nothing is changed"; or carried out, on a file that is accepted
-pub data Comes (f : List ℕ) (records : List Process) (words log answers : List ℕ) (byte logRows answerRows : ℕ) (p : Pressed) : Type 0 where
-  refused : (why : Why) (place : ℕ) → p ≡ record { outcome = Refused why place; processes = records; words = words; log = log; answers = answers } → Comes f records words log answers byte logRows answerRows p
-  went : (h : Header) → refusalOf f ample ≡ checked.Accepted h → (m a : ℕ) → p .outcome ≡ Went m a → Frame h f records words log answers byte logRows answerRows p → Comes f records words log answers byte logRows answerRows p
+pub data Comes (f : List ℕ) (l : Lent) (k : Stroke) (p : Pressed) : Type 0 where
+  refused : (why : Why) (place : ℕ) → p ≡ record { outcome = Refused why place; processes = l .processes; words = l .words; log = l .log; answers = l .answers } → Comes f l k p
+  went : (h : Header) → refusalOf f ample ≡ checked.Accepted h → (m a : ℕ) → p .outcome ≡ Went m a → Frame h f l k p → Comes f l k p
 
 -- whatever is lent, and whatever the key
-module _ (f : List ℕ) (records : List Process) (words log answers : List ℕ) (byte position logRows answerRows : ℕ) where
-  abbrev key : Pressing
-  key = pressing byte position logRows answerRows
-
+module _ (f : List ℕ) (records : List Process) (words log answers : List ℕ) (key : Stroke) where
   abbrev lends : Lent
   lends = lent records words log answers
 
-  pub frame : Comes f records words log answers byte logRows answerRows (keyed f records words log answers byte position logRows answerRows)
+  abbrev whole : Table
+  whole = record { processes = records; held = length records }
+
+  pub frame : Comes f lends key (keyed f records words log answers key)
   unfolding keyed pressed
-  frame = go (verdictOf f (length records) key lends) refl
+  frame = go (verdictOf f whole (roomOf words log answers) key) refl
     where
-      go : (v : Verdict) → verdictOf f (length records) key lends ≡ v → Comes f records words log answers byte logRows answerRows (pressedAs v f key lends)
+      go : (v : Verdict) → verdictOf f whole (roomOf words log answers) key ≡ v → Comes f lends key (pressedAs v f lends key)
       go (Not why place) e = refused why place refl
       go (Fine h) e =
-          let file = fine-file f (length records) key lends h e in
-          went h (file .0) _ _ refl (frame-carried h f records words log answers byte position logRows answerRows (fit f (length records) key lends h e) (file .1))
+          let file = fine-file f whole (roomOf words log answers) key h e in
+          went h (file .0) _ _ refl (frame-carried h f records words log answers key (fit f whole (roomOf words log answers) key h e) (file .1))

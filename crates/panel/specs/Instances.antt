@@ -27,6 +27,7 @@ use Rattle.rows.specs.Buffers.{five, entryAt, infront}
 use Rattle.machine.specs.Records.{fresh}
 use Rattle.machine.specs.Steps.{spoken, tried, storing, decide, stepTurn}
 use Rattle.machine.specs.Machine.{turn, apply, applied, procAt, act, step}
+use Rattle.panel.specs.declared.Stroke.{Stroke}
 use Rattle.panel.specs.declared.Outcome.{Outcome}
 use Rattle.panel.specs.declared.Outcome.the-variants.{Went, Refused}
 use Rattle.panel.specs.Possible.{misplaced, misdone, impossible, anyImpossible}
@@ -117,21 +118,25 @@ abbrev refusal : Outcome → ℕ
 refusal (Went log answers) = 0
 refusal (Refused why place) = numberOfWhy why
 
+-- a key: the byte, its position, and the two row counts
+abbrev keyOf : (byte position log answers : ℕ) → Stroke
+keyOf byte position log answers = record { byte = byte; position = position; log = log; answers = answers }
+
 -- everything is wrong, and one thing after the other is put right: a damaged file; no word; one record; room for no log row; a log count past the
 -- buffer; room for no answer; position 1,024; a record that cannot be; bytes that are no action; and at last nothing
 pub in-order :
-    refusal (keyed damaged (fresh ∷ []) [] [] [] 48 1024 0 0 .outcome)
-    ∷ refusal (keyed file (fresh ∷ []) [] [] [] 48 1024 0 0 .outcome)
-    ∷ refusal (keyed file (fresh ∷ []) (7 ∷ []) [] [] 48 1024 0 0 .outcome)
-    ∷ refusal (keyed file spoilt (7 ∷ []) (replicate 4 0) [] 48 1024 0 0 .outcome)
-    ∷ refusal (keyed file spoilt (7 ∷ []) (replicate 14 0) [] 48 1024 2 0 .outcome)
-    ∷ refusal (keyed file spoilt (7 ∷ []) (replicate 15 0) [] 48 1024 2 0 .outcome)
-    ∷ refusal (keyed file spoilt (7 ∷ []) (replicate 15 0) (replicate 5 0) 48 1024 2 0 .outcome)
-    ∷ refusal (keyed file spoilt (7 ∷ []) (replicate 15 0) (replicate 5 0) 48 1023 2 0 .outcome)
-    ∷ refusal (keyed file idle (7 ∷ []) (replicate 15 0) (replicate 5 0) 48 1023 2 0 .outcome)
-    ∷ refusal (keyed file idle (7 ∷ []) (replicate 15 0) (replicate 5 0) 2 1023 2 0 .outcome)
-    ∷ refusal (keyed file idle (7 ∷ []) (replicate 15 0) (replicate 5 0) 241 1023 2 0 .outcome)
-    ∷ refusal (keyed file idle (7 ∷ []) (replicate 15 0) (replicate 5 0) 0 1023 2 0 .outcome)
+    refusal (keyed damaged (fresh ∷ []) [] [] [] (keyOf 48 1024 0 0) .outcome)
+    ∷ refusal (keyed file (fresh ∷ []) [] [] [] (keyOf 48 1024 0 0) .outcome)
+    ∷ refusal (keyed file (fresh ∷ []) (7 ∷ []) [] [] (keyOf 48 1024 0 0) .outcome)
+    ∷ refusal (keyed file spoilt (7 ∷ []) (replicate 4 0) [] (keyOf 48 1024 0 0) .outcome)
+    ∷ refusal (keyed file spoilt (7 ∷ []) (replicate 14 0) [] (keyOf 48 1024 2 0) .outcome)
+    ∷ refusal (keyed file spoilt (7 ∷ []) (replicate 15 0) [] (keyOf 48 1024 2 0) .outcome)
+    ∷ refusal (keyed file spoilt (7 ∷ []) (replicate 15 0) (replicate 5 0) (keyOf 48 1024 2 0) .outcome)
+    ∷ refusal (keyed file spoilt (7 ∷ []) (replicate 15 0) (replicate 5 0) (keyOf 48 1023 2 0) .outcome)
+    ∷ refusal (keyed file idle (7 ∷ []) (replicate 15 0) (replicate 5 0) (keyOf 48 1023 2 0) .outcome)
+    ∷ refusal (keyed file idle (7 ∷ []) (replicate 15 0) (replicate 5 0) (keyOf 2 1023 2 0) .outcome)
+    ∷ refusal (keyed file idle (7 ∷ []) (replicate 15 0) (replicate 5 0) (keyOf 241 1023 2 0) .outcome)
+    ∷ refusal (keyed file idle (7 ∷ []) (replicate 15 0) (replicate 5 0) (keyOf 0 1023 2 0) .outcome)
     ∷ []
     ≡ 2 ∷ 13 ∷ 13 ∷ 14 ∷ 14 ∷ 15 ∷ 21 ∷ 21 ∷ 22 ∷ 22 ∷ 22 ∷ 0 ∷ []
 unfolding keyed pressed verdictOf judged refusalOf headerIn u16At marked headSize wordSize rowSize newPlace numberAt rowAt badField sameFields badByte firstBadField firstRow firstLaterRow firstByte tableOf rowsFrom anyImpossible impossible misplaced misdone rowNumbered first count

@@ -2,6 +2,7 @@ pub mod Laid
 pub mod Possible
 pub mod Press
 pub mod Key
+pub mod Promises
 pub mod Lives
 pub mod Fits
 pub mod Longer

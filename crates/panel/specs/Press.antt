@@ -19,6 +19,9 @@ use Rattle.runfile.specs.Refusals.{numberOf, badByte, refusalOf}
 use Rattle.rows.specs.Buffers.{rowsOf, flat, infront}
 use Rattle.machine.specs.declared.Process.{Process}
 use Rattle.machine.specs.Machine.{State, step}
+use Rattle.run.specs.Run.{roomOf}
+use Rattle.panel.specs.declared.Stroke.{Stroke}
+use Rattle.panel.specs.declared.Table.{Table}
 use Rattle.panel.specs.declared.Why.{Why}
 use Rattle.panel.specs.declared.Why.the-variants.{Run, Record, Key}
 use Rattle.panel.specs.declared.Verdict.{Verdict}
@@ -37,63 +40,51 @@ numberOfWhy Key = 22
 abbrev pub ample : Room
 ample = record { words = 16; log = 5120; answers = 5120 }
 
--- what comes with a key: the byte, the position and the two row counts
-pub record Pressing : Type 0 where
-  pub byte : ℕ
-  pub position : ℕ
-  pub logRows : ℕ
-  pub answerRows : ℕ
-
--- what is lent: a table of sixteen records, of which the first n are the caller's, and the three buffers
+-- what is lent: the records, and the three buffers
 pub record Lent : Type 0 where
   pub processes : List Process
   pub words : List ℕ
   pub log : List ℕ
   pub answers : List ℕ
 
-abbrev pub pressing : (byte position logRows answerRows : ℕ) → Pressing
-pressing byte position logRows answerRows = record { byte = byte; position = position; logRows = logRows; answerRows = answerRows }
-
 abbrev pub lent : List Process → (words log answers : List ℕ) → Lent
 lent processes words log answers = record { processes = processes; words = words; log = log; answers = answers }
 
--- 13 to 15: "a list shorter than P", "no room for one more row"; then 21 and 22. For a file that is accepted
-abbrev pub roomyBy : Header → (n words log answers logRows answerRows : ℕ) → Verdict
-roomyBy h n words log answers logRows answerRows =
-    cond (ltb words (h .words)) (Not (Run WordsRoom) 0)
-    (cond (ltb n (h .processes)) (Not (Run WordsRoom) 0)
-    (cond (ltb log (logRows * 5 + 5)) (Not (Run LogRoom) 0)
-    (cond (ltb answers (answerRows * 5 + 5)) (Not (Run AnswersRoom) 0) (Fine h))))
+-- 13 to 15, for a file that is accepted: "a list shorter than P", "no room for one more row"
+abbrev pub roomy : Header → (held : ℕ) → Room → Stroke → Verdict
+roomy h held room k =
+    cond (ltb (room .words) (h .words)) (Not (Run WordsRoom) 0)
+    (cond (ltb held (h .processes)) (Not (Run WordsRoom) 0)
+    (cond (ltb (room .log) (k .log * 5 + 5)) (Not (Run LogRoom) 0)
+    (cond (ltb (room .answers) (k .answers * 5 + 5)) (Not (Run AnswersRoom) 0) (Fine h))))
 
-abbrev pub roomy : Header → ℕ → Pressing → Lent → Verdict
-roomy h n k l = roomyBy h n (length (l .words)) (length (l .log)) (length (l .answers)) (k .logRows) (k .answerRows)
-
-abbrev pub sound : Header → List ℕ → List Process → (byte position : ℕ) → Verdict
-sound h f processes byte position =
-    cond (ltb 1023 position) (Not Record 0)
+-- then 21 and 22
+abbrev pub sound : Header → List ℕ → List Process → Stroke → Verdict
+sound h f processes k =
+    cond (ltb 1023 (k .position)) (Not Record 0)
     (cond (anyImpossible (tableOf h f) processes 0 (h .processes)) (Not Record 0)
-    (cond (badByte (h .processes) byte) (Not Key 0) (Fine h)))
+    (cond (badByte (h .processes) (k .byte)) (Not Key 0) (Fine h)))
 
 abbrev pub andThen : Verdict → Verdict → Verdict
 andThen (Not why place) next = Not why place
 andThen (Fine h) next = next
 
-unfoldable pub judged : Header → List ℕ → ℕ → Pressing → Lent → Verdict
-judged h f n k l = andThen (roomy h n k l) (sound h f (l .processes) (k .byte) (k .position))
+unfoldable pub judged : Header → List ℕ → Table → Room → Stroke → Verdict
+judged h f t room k = andThen (roomy h (t .held) room k) (sound h f (t .processes) k)
 
-abbrev pub judgedAs : Checked → List ℕ → ℕ → Pressing → Lent → Verdict
-judgedAs (checked.Refused why place) f n k l = Not (Run why) place
-judgedAs (checked.Accepted h) f n k l = judged h f n k l
+abbrev pub judgedAs : Checked → List ℕ → Table → Room → Stroke → Verdict
+judgedAs (checked.Refused why place) f t room k = Not (Run why) place
+judgedAs (checked.Accepted h) f t room k = judged h f t room k
 
-unfoldable pub verdictOf : List ℕ → ℕ → Pressing → Lent → Verdict
-verdictOf f n k l = judgedAs (refusalOf f ample) f n k l
+unfoldable pub verdictOf : List ℕ → Table → Room → Stroke → Verdict
+verdictOf f t room k = judgedAs (refusalOf f ample) f t room k
 
 -- the state that is lent: the first P records, the words, and the rows that the counts give; and the state after the byte
-unfoldable pub stateOf : ℕ → Pressing → Lent → State
-stateOf P k l = record { words = l .words; processes = take P (l .processes); log = rowsOf (k .logRows) (l .log); answers = rowsOf (k .answerRows) (l .answers) }
+unfoldable pub stateOf : ℕ → Lent → Stroke → State
+stateOf P l k = record { words = l .words; processes = take P (l .processes); log = rowsOf (k .log) (l .log); answers = rowsOf (k .answers) (l .answers) }
 
-unfoldable pub stepped : Header → List ℕ → Pressing → Lent → State
-stepped h f k l = step (tableOf h f) (k .position) (k .byte) (stateOf (h .processes) k l)
+unfoldable pub stepped : Header → List ℕ → Lent → Stroke → State
+stepped h f l k = step (tableOf h f) (k .position) (k .byte) (stateOf (h .processes) l k)
 
 -- all that there is after a key: what it came to, the records, and the three buffers
 pub record Pressed : Type 0 where
@@ -104,9 +95,9 @@ pub record Pressed : Type 0 where
   pub answers : List ℕ
 
 -- carried out: the state is put back. Records beyond the first P are never touched, and numbers beyond the rows stay as they were
-abbrev pub carried : Header → List ℕ → Pressing → Lent → Pressed
-carried h f k l =
-    let s = stepped h f k l in
+abbrev pub carried : Header → List ℕ → Lent → Stroke → Pressed
+carried h f l k =
+    let s = stepped h f l k in
     record {
       outcome = Went (length (s .log)) (length (s .answers));
       processes = s .processes ++ drop (h .processes) (l .processes);
@@ -116,15 +107,12 @@ carried h f k l =
     }
 
 -- refused: "nothing is changed"
-abbrev pub pressedAs : Verdict → List ℕ → Pressing → Lent → Pressed
-pressedAs (Not why place) f k l = record { outcome = Refused why place; processes = l .processes; words = l .words; log = l .log; answers = l .answers }
-pressedAs (Fine h) f k l = carried h f k l
+abbrev pub pressedAs : Verdict → List ℕ → Lent → Stroke → Pressed
+pressedAs (Not why place) f l k = record { outcome = Refused why place; processes = l .processes; words = l .words; log = l .log; answers = l .answers }
+pressedAs (Fine h) f l k = carried h f l k
 
-unfoldable pub pressed : (file : List ℕ) (n : ℕ) (processes : List Process) (words log answers : List ℕ) (byte position logRows answerRows : ℕ) → Pressed
-pressed file n processes words log answers byte position logRows answerRows =
-    let k = pressing byte position logRows answerRows in
-    let l = lent processes words log answers in
-    pressedAs (verdictOf file n k l) file k l
+unfoldable pub pressed : (file : List ℕ) → Table → (words log answers : List ℕ) → Stroke → Pressed
+pressed file t words log answers k = pressedAs (verdictOf file t (roomOf words log answers) k) file (lent (t .processes) words log answers) k
 
 -- what a function returned and left is what p says
 pub record Leaves (p : Pressed) (r : Outcome) (processes : List Process) (words log answers : List ℕ) : Type 0 where
@@ -135,11 +123,11 @@ pub record Leaves (p : Pressed) (r : Outcome) (processes : List Process) (words 
   pub answers-are : answers ≡ p .answers
 
 -- what holds of a key that is not refused
-pub record Fit (h : Header) (f : List ℕ) (k : Pressing) (l : Lent) : Type 0 where
+pub record Fit (h : Header) (f : List ℕ) (processes : List Process) (room : Room) (k : Stroke) : Type 0 where
   pub lawful : Lawful h f ample
-  pub words-room : h .words ≤ length (l .words)
-  pub log-room : k .logRows * 5 + 5 ≤ length (l .log)
-  pub answers-room : k .answerRows * 5 + 5 ≤ length (l .answers)
+  pub words-room : h .words ≤ room .words
+  pub log-room : k .log * 5 + 5 ≤ room .log
+  pub answers-room : k .answers * 5 + 5 ≤ room .answers
   pub early : k .position ≤ 1023
-  pub possible : anyImpossible (tableOf h f) (l .processes) 0 (h .processes) ≡ false
+  pub possible : anyImpossible (tableOf h f) processes 0 (h .processes) ≡ false
   pub action : badByte (h .processes) (k .byte) ≡ false

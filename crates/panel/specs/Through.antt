@@ -27,18 +27,20 @@ use Rattle.machine.specs.Machine.{State, procAt, step, after, begin}
 use Rattle.run.specs.declared.Outcome.{Outcome as RunOutcome}
 use Rattle.run.specs.declared.Outcome.the-variants.{Ran}
 use Rattle.run.specs.Run.{endOf, roomOf, EndsAs, Ends}
+use Rattle.panel.specs.declared.Stroke.{Stroke}
+use Rattle.panel.specs.declared.Table.{Table}
 use Rattle.panel.specs.declared.Outcome.{Outcome}
 use Rattle.panel.specs.declared.Outcome.the-variants.{Went, Refused}
 use Rattle.panel.specs.declared.Verdict.the-variants.{Fine}
 use Rattle.panel.specs.Possible.{impossible, anyImpossible}
 use Rattle.panel.specs.Lives.{Lives, lives-step, lives-begin, lives-possible}
 use Rattle.panel.specs.Longer.{longer, step-longer, grows}
-use Rattle.panel.specs.Press.{Pressing, Lent, ample, pressing, lent, judged, verdictOf, stateOf, stepped, Pressed, carried, pressedAs, pressed, Leaves}
+use Rattle.panel.specs.Press.{Lent, ample, lent, judged, verdictOf, stateOf, stepped, Pressed, carried, pressedAs, pressed, Leaves}
 use Rattle.panel.specs.Key.{keyed}
 
 -- the key after one that came to this: the counts are handed on; after a refusal none is pressed
 abbrev pub keyAfter : List ℕ → (t byte : ℕ) → Pressed → Outcome → Pressed
-keyAfter f t byte p (Went log answers) = keyed f (p .processes) (p .words) (p .log) (p .answers) byte t log answers
+keyAfter f t byte p (Went log answers) = keyed f (p .processes) (p .words) (p .log) (p .answers) (record { byte = byte; position = t; log = log; answers = answers })
 keyAfter f t byte p (Refused why place) = p
 
 -- key after key, the first of them at position t
@@ -111,11 +113,14 @@ module _ (f words log answers : List ℕ) (h : Header) (fine : refusalOf f (room
       go false e = rw (rowNumbered-past (strideOf h) f (rowsStart h) (h .rows) k (ltb-false k (h .rows) e)) (l .head .some-word)
 
   module _ (t byte : ℕ) (s : State) (g : Good t s) (in-schedule : t < h .steps) (fit : LawfulByte P byte) where
-    abbrev k : Pressing
-    k = pressing byte t (length (s .log)) (length (s .answers))
+    abbrev k : Stroke
+    k = record { byte = byte; position = t; log = length (s .log); answers = length (s .answers) }
 
     abbrev lends : Lent
     lends = lent (held s .processes) (held s .words) (held s .log) (held s .answers)
+
+    abbrev whole : Table
+    whole = record { processes = held s .processes; held = length (held s .processes) }
 
     words-fit : length (infront (s .words) words) ≡ length words
     words-fit = length-infront (s .words) words (let a = g .words-all in let b = l .words-room in omega arith)
@@ -136,7 +141,7 @@ module _ (f words log answers : List ℕ) (h : Header) (fine : refusalOf f (room
     can-be : anyImpossible rows (s .processes ++ drop P records) 0 P ≡ false
     can-be = none-impossible rows (s .processes ++ drop P records) 0 P (λ p i. there p (let a = g .all in omega arith))
 
-    not-refused : verdictOf f (length (held s .processes)) k lends ≡ Fine h
+    not-refused : verdictOf f whole (roomOf (held s .words) (held s .log) (held s .answers)) k ≡ Fine h
     unfolding verdictOf judged
     not-refused =
         rw (
@@ -154,12 +159,12 @@ module _ (f words log answers : List ℕ) (h : Header) (fine : refusalOf f (room
         ) refl
 
     -- the state that is lent
-    same-state : stateOf P k lends ≡ longer (drop (length (s .words)) words) s
+    same-state : stateOf P lends k ≡ longer (drop (length (s .words)) words) s
     unfolding stateOf infront
     same-state = rw (take-at (s .processes) (drop P records) P (g .all), rows-back (s .log) log, rows-back (s .answers) answers) refl
 
     -- the state after the byte, with what stands behind the file's words
-    stepped-is : stepped h f k lends ≡ longer (drop (length (s .words)) words) (step rows t byte s)
+    stepped-is : stepped h f lends k ≡ longer (drop (length (s .words)) words) (step rows t byte s)
     unfolding stepped
     stepped-is = ap (step rows t byte) same-state ∙ step-longer rows (drop (length (s .words)) words) t s (λ k. rw (g .words-all) (inside k)) byte
 
@@ -167,7 +172,7 @@ module _ (f words log answers : List ℕ) (h : Header) (fine : refusalOf f (room
     unfolding infront
     same-words = ap (λ n. step rows t byte s .words ++ drop n words) (sym (grows rows t byte s .words))
 
-    carried-is : carried h f k lends ≡ held (step rows t byte s)
+    carried-is : carried h f lends k ≡ held (step rows t byte s)
     carried-is =
         ap (λ u. record {
           outcome = Went (length (u .log)) (length (u .answers));
@@ -184,7 +189,7 @@ module _ (f words log answers : List ℕ) (h : Header) (fine : refusalOf f (room
 
     one-key : keyAfter f t byte (held s) (held s .outcome) ≡ held (step rows t byte s)
     unfolding keyed pressed
-    one-key = ap (λ v. pressedAs v f k lends) not-refused ∙ carried-is
+    one-key = ap (λ v. pressedAs v f lends k) not-refused ∙ carried-is
 
   -- key after key
   go-through : (bytes : List ℕ) (t : ℕ) (s : State) → Good t s → t + length bytes ≤ h .steps → ((i : ℕ) → i < length bytes → LawfulByte P (getD bytes i 0)) → stepping f t bytes (held s) ≡ held (after rows t bytes s)

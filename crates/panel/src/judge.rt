@@ -1,4 +1,6 @@
 // Whether a key is carried out: refusals 13 to 22, for a file that is accepted; and before them the file's own.
+use super::Stroke;
+use super::Table;
 use super::Verdict;
 use super::Why;
 use super::possible::misdone;
@@ -74,44 +76,30 @@ fn any_impossible(
 }
 
 // 13 to 15: the words, the records, and room for one row more of each kind.
-fn room_verdict(
-    header: Header,
-    n: usize,
-    words: usize,
-    log: usize,
-    answers: usize,
-    log_rows: usize,
-    answer_rows: usize,
-) -> Verdict
-    ensures { λ r. ⌜ r ≡ press.roomyBy header n words log answers «log_rows» «answer_rows» ⌝ }
+fn room_verdict(header: Header, held: usize, room: Room, key: Stroke) -> Verdict
+    ensures { λ r. ⌜ r ≡ press.roomy header held room key ⌝ }
 {
-    if words < runfile::index8(header.words) {
+    if room.words < runfile::index8(header.words) {
         return Verdict::Not(Why::Run(Refusal::WordsRoom), 0);
     }
-    if n < runfile::index8(header.processes) {
+    if held < runfile::index8(header.processes) {
         return Verdict::Not(Why::Run(Refusal::WordsRoom), 0);
     }
-    if log / 5 <= log_rows {
+    if room.log / 5 <= key.log {
         return Verdict::Not(Why::Run(Refusal::LogRoom), 0);
     }
-    if answers / 5 <= answer_rows {
+    if room.answers / 5 <= key.answers {
         return Verdict::Not(Why::Run(Refusal::AnswersRoom), 0);
     }
     Verdict::Fine(header)
 }
 
 // 21 and 22: the position, the records and the byte.
-fn sound_verdict(
-    file: &[u8],
-    header: Header,
-    processes: [Process; 16],
-    byte: u8,
-    position: usize,
-) -> Verdict
+fn sound_verdict(file: &[u8], header: Header, processes: [Process; 16], key: Stroke) -> Verdict
     requires { ⌜ Lawful header (now file) press.ample ⌝ }
-    ensures { λ r. ⌜ r ≡ press.sound header (now (file .entry)) processes byte position ⌝ }
+    ensures { λ r. ⌜ r ≡ press.sound header (now (file .entry)) processes key ⌝ }
 {
-    if 1023 < position {
+    if 1023 < key.position {
         return Verdict::Not(Why::Record, 0);
     }
     let stride = runfile::stride_of(header);
@@ -121,48 +109,29 @@ fn sound_verdict(
     if any_impossible(&file[rows_at..], stride, rows, processes, present) {
         return Verdict::Not(Why::Record, 0);
     }
-    if runfile::is_bad_byte(byte, header.processes) {
+    if runfile::is_bad_byte(key.byte, header.processes) {
         return Verdict::Not(Why::Key, 0);
     }
     Verdict::Fine(header)
 }
 
 // The verdict on a key. The file is checked with room for any run, so that 13 to 15 are not given for it.
-pub fn verdict_of(
-    file: &[u8],
-    n: usize,
-    processes: [Process; 16],
-    words: &[u32],
-    log: &[u32],
-    answers: &[u32],
-    byte: u8,
-    position: usize,
-    log_rows: usize,
-    answer_rows: usize,
-) -> Verdict
-    ensures { λ r. ⌜ r ≡ press.verdictOf (now (file .entry)) n (press.pressing byte position «log_rows» «answer_rows») (press.lent processes (now (words .entry)) (now (log .entry)) (now (answers .entry))) ⌝ }
+pub fn verdict_of(file: &[u8], table: Table, room: Room, key: Stroke) -> Verdict
+    ensures { λ r. ⌜ r ≡ press.verdictOf (now (file .entry)) table room key ⌝ }
 {
-    let room = Room {
+    let ample = Room {
         words: 16,
         log: 5120,
         answers: 5120,
     };
-    match runfile::check(file, room) {
+    match runfile::check(file, ample) {
         Checked::Refused(why, place) => Verdict::Not(Why::Run(why), place),
-        Checked::Accepted(header) => {
-            let roomy = room_verdict(
-                header,
-                n,
-                words.len(),
-                log.len(),
-                answers.len(),
-                log_rows,
-                answer_rows,
-            );
-            match roomy {
-                Verdict::Not(why, place) => Verdict::Not(why, place),
-                Verdict::Fine(_) => sound_verdict(file, header, processes, byte, position),
+        Checked::Accepted(header) => match room_verdict(header, table.held, room, key) {
+            Verdict::Not(why, place) => Verdict::Not(why, place),
+            Verdict::Fine(_) => {
+                let processes = table.processes;
+                sound_verdict(file, header, processes, key)
             }
-        }
+        },
     }
 }

@@ -13,9 +13,17 @@ use records::give;
 use records::held;
 use records::take;
 use runfile::Header;
-ghost use Rattle.panel.specs.Key.{keyed};
-ghost use Rattle.panel.specs.Press.{Leaves, numberOfWhy};
+ghost use Rattle.panel.specs.Press.{numberOfWhy};
+ghost use Rattle.panel.specs.Promises.{Keyed};
 ghost use mathlib.Core.Path.{_≡_};
+
+// A key as it is struck: the byte, its position, and how many rows stand in the log and in the answers.
+pub struct Stroke {
+    pub byte: u8,
+    pub position: usize,
+    pub log: usize,
+    pub answers: usize,
+}
 
 // Why a key is refused.
 pub enum Why {
@@ -40,7 +48,13 @@ pub enum Verdict {
     Not(Why, usize),
 }
 
-// The table after a key, and what the key came to.
+// Sixteen records by value, of which the first `held` are the caller's.
+pub struct Table {
+    pub processes: [Process; 16],
+    pub held: usize,
+}
+
+// The records of the table after a key, and what the key came to.
 pub struct After {
     pub processes: [Process; 16],
     pub outcome: Outcome,
@@ -57,7 +71,7 @@ pub fn why_number(why: Why) -> u32
     }
 }
 
-// The table that `press` left, by a function of its own: in a proof by hand, as that of `key`, a field that is an array
+// The records that `press` left, by a function of its own: in a proof by hand, as that of `key`, a field that is an array
 // of structs cannot be read.
 fn processes_of(after: After) -> [Process; 16]
     ensures { λ r. ⌜ r ≡ after .processes ⌝ }
@@ -67,6 +81,12 @@ fn processes_of(after: After) -> [Process; 16]
 }
 
 // Likewise a struct that holds such a field cannot be built there.
+fn table_of(processes: [Process; 16], held: usize) -> Table
+    ensures { λ r. ⌜ (r .processes ≡ processes) × (r .held ≡ held) ⌝ }
+{
+    Table { processes, held }
+}
+
 fn after_of(processes: [Process; 16], outcome: Outcome) -> After
     ensures { λ r. ⌜ (r .processes ≡ processes) × (r .outcome ≡ outcome) ⌝ }
 {
@@ -80,28 +100,14 @@ pub fn key(
     words: &mut [u32],
     log: &mut [u32],
     answers: &mut [u32],
-    byte: u8,
-    position: usize,
-    log_rows: usize,
-    answer_rows: usize,
+    key: Stroke,
 ) -> Outcome
-    ensures { λ r. ⌜ Leaves (keyed (now (file .entry)) (now (records .entry)) (now (words .entry)) (now (log .entry)) (now (answers .entry)) byte position «log_rows» «answer_rows»)
-        r (now (records .exit)) (now (words .exit)) (now (log .exit)) (now (answers .exit)) ⌝ }
+    ensures { λ r. ⌜ Keyed (now (file .entry)) (now (records .entry)) (now (words .entry)) (now (log .entry)) (now (answers .entry)) key r (now (records .exit)) (now (words .exit)) (now (log .exit)) (now (answers .exit)) ⌝ }
 {
     let n = held(records.len());
     let processes = take(records, n);
-    let after = press(
-        file,
-        n,
-        processes,
-        words,
-        log,
-        answers,
-        byte,
-        position,
-        log_rows,
-        answer_rows,
-    );
+    let table = table_of(processes, n);
+    let after = press(file, table, words, log, answers, key);
     let left = processes_of(after);
     give(records, n, left);
     after.outcome
@@ -114,25 +120,11 @@ pub fn key_on_table(
     words: &mut [u32],
     log: &mut [u32],
     answers: &mut [u32],
-    byte: u8,
-    position: usize,
-    log_rows: usize,
-    answer_rows: usize,
+    pressed: Stroke,
 ) -> After
-    ensures { λ r. ⌜ Leaves (keyed (now (file .entry)) processes (now (words .entry)) (now (log .entry)) (now (answers .entry)) byte position «log_rows» «answer_rows»)
-        (r .outcome) (r .processes) (now (words .exit)) (now (log .exit)) (now (answers .exit)) ⌝ }
+    ensures { λ r. ⌜ Keyed (now (file .entry)) processes (now (words .entry)) (now (log .entry)) (now (answers .entry)) pressed (r .outcome) (r .processes) (now (words .exit)) (now (log .exit)) (now (answers .exit)) ⌝ }
 {
     let mut records = processes;
-    let outcome = key(
-        file,
-        &mut records,
-        words,
-        log,
-        answers,
-        byte,
-        position,
-        log_rows,
-        answer_rows,
-    );
+    let outcome = key(file, &mut records, words, log, answers, pressed);
     after_of(records, outcome)
 }

@@ -10,7 +10,7 @@ add-later : tie.Need-add-later
 add-later c =
     let went = c .before .before in
     let pressed = went .before .before .before .before .before .before .before in
-    let h = early _ _ _ _ _ _ _ _ _ _ _ (sym (pressed .key-on-table .ensures .result) ∙ went .outcome .given .1) in
+    let h = early _ _ _ _ _ _ _ _ (sym (pressed .key-on-table .ensures .result) ∙ went .outcome .given .1) in
     record { fits = omega arith }
 
 pub carry-out-spec : {M : Type 1} → statement M

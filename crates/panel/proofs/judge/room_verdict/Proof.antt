@@ -17,28 +17,20 @@ no-more a n h = omega arith
 one-more : (a n : ℕ) → n < a / 5 → n * 5 + 5 ≤ a
 one-more a n h = omega arith
 
-index8-requires : tie.Need-index8-requires
-index8-requires c κs = search needs
-
 returns : tie.Need-returns
-returns c = rw (lt-ltb _ _ (rw (c .before .index8 .ensures .0) at (c .if1 .taken))) refl
-
-index8-requires-2 : tie.Need-index8-requires-2
-index8-requires-2 c κs = search needs
+returns c = rw (lt-ltb _ _ (rw (c .before .before .index8 .ensures .0) at (c .if1 .taken))) refl
 
 returns-2 : tie.Need-returns-2
-returns-2 c = rw (le-ltb _ _ (rw (c .before .before .before .index8 .ensures .0) at (c .before .before .if1 .left)), lt-ltb _ _ (rw (c .before .index82 .ensures .0) at (c .if2 .taken))) refl
+returns-2 c = rw (le-ltb _ _ (rw (c .before .before .before .before .index8 .ensures .0) at (c .before .before .if1 .left)), lt-ltb _ _ (rw (c .before .index82 .ensures .0) at (c .if2 .taken))) refl
 
 returns-3 : tie.Need-returns-3
-returns-3 c = rw (le-ltb _ _ (rw (c .before .before .before .before .index8 .ensures .0) at (c .before .before .before .if1 .left)), le-ltb _ _ (rw (c .before .before .index82 .ensures .0) at (c .before .if2 .left)), lt-ltb _ _ (no-more _ _ (c .if3 .taken))) refl
+returns-3 c = rw (le-ltb _ _ (rw (c .before .before .before .before .before .before .before .index8 .ensures .0) at (c .before .before .before .before .before .if1 .left)), le-ltb _ _ (rw (c .before .before .before .before .index82 .ensures .0) at (c .before .before .before .if2 .left)), lt-ltb _ _ (no-more _ _ (c .if3 .taken))) refl
 
 returns-4 : tie.Need-returns-4
-returns-4 c = rw (le-ltb _ _ (rw (c .before .before .before .before .before .index8 .ensures .0) at (c .before .before .before .before .if1 .left)), le-ltb _ _ (rw (c .before .before .before .index82 .ensures .0) at (c .before .before .if2 .left)), le-ltb _ _ (one-more _ _ (c .before .if3 .left)), lt-ltb _ _ (no-more _ _ (c .if4 .taken))) refl
+returns-4 c = rw (le-ltb _ _ (rw (c .before .before .before .before .before .before .before .before .before .before .index8 .ensures .0) at (c .before .before .before .before .before .before .before .before .if1 .left)), le-ltb _ _ (rw (c .before .before .before .before .before .before .before .index82 .ensures .0) at (c .before .before .before .before .before .before .if2 .left)), le-ltb _ _ (one-more _ _ (c .before .before .before .if3 .left)), lt-ltb _ _ (no-more _ _ (c .if4 .taken))) refl
 
 returns-5 : tie.Need-returns-5
-returns-5 c = rw (le-ltb _ _ (rw (c .before .before .before .before .before .index8 .ensures .0) at (c .before .before .before .before .if1 .left)), le-ltb _ _ (rw (c .before .before .before .index82 .ensures .0) at (c .before .before .if2 .left)), le-ltb _ _ (one-more _ _ (c .before .if3 .left)), le-ltb _ _ (one-more _ _ (c .if4 .left))) refl
+returns-5 c = rw (le-ltb _ _ (rw (c .before .before .before .before .before .before .before .before .before .before .index8 .ensures .0) at (c .before .before .before .before .before .before .before .before .if1 .left)), le-ltb _ _ (rw (c .before .before .before .before .before .before .before .index82 .ensures .0) at (c .before .before .before .before .before .before .if2 .left)), le-ltb _ _ (one-more _ _ (c .before .before .before .if3 .left)), le-ltb _ _ (one-more _ _ (c .if4 .left))) refl
 
 pub room-verdict-spec : {M : Type 1} → statement M
-room-verdict-spec =
-    tie.close
-    (tie.spec index8-requires returns index8-requires-2 returns-2 returns-3 returns-4 returns-5)
+room-verdict-spec = tie.close (tie.spec (λ c κs. search needs) returns (λ c κs. search needs) returns-2 returns-3 returns-4 returns-5)

@@ -22,23 +22,23 @@ use Rattle.runfile.proofs.rows_start.Reads as rows-start-reads
 use Rattle.runfile.proofs.stride_of.Reads as stride-of-reads
 
 -- the part of the file that is lent is the table, and the search over it is that over the file's rows
-asked : (c : tie.After-any-impossible-arg) → let i8 = c .before in let i16 = i8 .before in let rs = i16 .before in let b = rs .before .before .before .before .args in
+asked : (c : tie.After-any-impossible-arg) → let i8 = c .before in let i16 = i8 .before in let rs = i16 .before in let b = rs .before .before .before .before .before .args in
     (i8 .index8 .result ≤ 16) × Lined (rs .before .stride-of .result) (take (length (now (b .file)) - rs .rows-start .result) (drop (rs .rows-start .result) (now (b .file)))) (i16 .index16 .result)
 asked c =
     let i8 = c .before in
     let i16 = i8 .before in
     let rs = i16 .before in
-    let st = rs .before .before .before .before in
+    let st = rs .before .before .before .before .before in
     let few = st .pre .head .processes in
     (rw (i8 .index8 .ensures .0) few, rw (part-all (now (st .args .file)) (rs .rows-start .result), rs .before .stride-of .ensures .0, rs .rows-start .ensures .0, i16 .index16 .ensures .0) (lined-part (st .args .header) (now (st .args .file)) ample (st .pre)))
 
-found : (c : tie.After-any-impossible) → let b = c .before .before .before .before .before .before .before .before .args in
+found : (c : tie.After-any-impossible) → let b = c .before .before .before .before .before .before .before .before .before .args in
     c .any-impossible .result ≡ anyImpossible (tableOf (b .header) (now (b .file))) (b .processes) 0 (b .header .processes)
 found c =
     let i8 = c .before .before in
     let i16 = i8 .before in
     let rs = i16 .before in
-    let b = rs .before .before .before .before .args in
+    let b = rs .before .before .before .before .before .args in
     (rw (part-all (now (b .file)) (rs .rows-start .result), rs .before .stride-of .ensures .0, rs .rows-start .ensures .0, i16 .index16 .ensures .0, i8 .index8 .ensures .0, table-part (b .header) (now (b .file))) at (c .any-impossible .ensures))
 
 returns : tie.Need-returns

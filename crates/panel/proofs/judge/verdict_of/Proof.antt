@@ -24,7 +24,7 @@ as-fine : (v next r : Verdict) (h : Header) → v ≡ Fine h → r ≡ next → 
 as-fine v next r h e q = rw e q
 
 sound-verdict-requires : tie.Need-sound-verdict-requires
-sound-verdict-requires c κs = let h = c .before .before .before .before in
+sound-verdict-requires c κs = let h = c .before .before .before .before .before in
     let ck = h .before .before in
     lawful _ _ _ (sym (ck .check .ensures .result) ∙ h .header .given .1)
 
@@ -38,14 +38,14 @@ unfolding verdictOf judged
 returns-2 c = let rv = c .before .before .before in
     let h = rv .before .before in
     let ck = h .before .before in
-    rw (sym (ck .check .ensures .result) ∙ h .header .given .1) (as-not _ _ _ _ (sym (rv .room-verdict .ensures) ∙ c .before .roomy .given .1))
+    rw (sym (ck .check .ensures .result) ∙ h .header .given .1) (as-not _ _ _ _ (sym (rv .room-verdict .ensures) ∙ c .before .why2 .given .1))
 
 returns-3 : tie.Need-returns-3
 unfolding verdictOf judged
-returns-3 c = let rv = c .before .before .before in
+returns-3 c = let rv = c .before .before .before .before in
     let h = rv .before .before in
     let ck = h .before .before in
-    rw (sym (ck .check .ensures .result) ∙ h .header .given .1) (as-fine _ _ _ _ (sym (rv .room-verdict .ensures) ∙ c .before .enum-told .given .1) (c .sound-verdict .ensures))
+    rw (sym (ck .check .ensures .result) ∙ h .header .given .1) (as-fine _ _ _ _ (sym (rv .room-verdict .ensures) ∙ c .before .before .enum-told .given .1) (c .sound-verdict .ensures))
 
 pub verdict-of-spec : {M : Type 1} → statement M
 verdict-of-spec =

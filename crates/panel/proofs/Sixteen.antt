@@ -10,6 +10,7 @@ use lib.ListN.{length, take, drop, getD, take-append-drop, List·getD-append}
 use lib.Seq.{length-take-le, take-at, take-take, take-append-le, getD-take}
 use borrow.Author.Tests.{ltb-true, ltb-false, lt-ltb, le-ltb}
 use Rattle.runfile.specs.declared.Header.{Header}
+use Rattle.runfile.specs.declared.Room.{Room}
 use Rattle.runfile.specs.declared.Row.{Row}
 use Rattle.runfile.specs.declared.Checked.{Checked}
 use Rattle.runfile.specs.declared.Checked.the-variants as checked
@@ -21,6 +22,9 @@ use Rattle.machine.specs.declared.Process.{Process}
 use Rattle.rows.specs.Buffers.{rowsOf, flat, infront}
 use Rattle.machine.specs.Records.{nobody}
 use Rattle.machine.specs.Machine.{step}
+use Rattle.run.specs.Run.{roomOf}
+use Rattle.panel.specs.declared.Stroke.{Stroke}
+use Rattle.panel.specs.declared.Table.{Table}
 use Rattle.panel.specs.declared.Verdict.{Verdict}
 use Rattle.panel.specs.declared.Verdict.the-variants.{Fine, Not}
 use Rattle.panel.specs.declared.Why.the-variants.{Run}
@@ -29,7 +33,7 @@ use Rattle.panel.specs.Fits.{not-fine, list-room}
 use Rattle.panel.specs.Longer.{grows}
 use Rattle.panel.specs.Laid.{blank, laid}
 use Rattle.panel.specs.Possible.{anyImpossible}
-use Rattle.panel.specs.Press.{Pressing, Lent, pressing, lent, ample, sound, andThen, judged, judgedAs, verdictOf, stateOf, stepped, Pressed, pressedAs, pressed}
+use Rattle.panel.specs.Press.{Lent, lent, ample, sound, andThen, judged, judgedAs, verdictOf, stateOf, stepped, Pressed, pressedAs, pressed}
 use Rattle.panel.specs.Key.{keyed}
 
 -- with the first n of the table laid back into the list
@@ -77,16 +81,22 @@ short-alike n P h = go (ltb n P) refl
     go true e = lt-ltb (min n 16) P (let l = ltb-true n P e in omega arith)
     go false e = le-ltb (min n 16) P (let l = ltb-false n P e in omega arith)
 
-module _ (f : List ℕ) (records : List Process) (words log answers : List ℕ) (byte position logRows answerRows : ℕ) where
+module _ (f : List ℕ) (records : List Process) (words log answers : List ℕ) (k : Stroke) where
   abbrev n : ℕ
   n = min (length records) 16
 
-  abbrev k : Pressing
-  k = pressing byte position logRows answerRows
+  abbrev room : Room
+  room = roomOf words log answers
 
   -- what `press` is handed: the records in the table; and what the caller lends
-  abbrev table : Lent
-  table = lent (laid n records blank) words log answers
+  abbrev table : Table
+  table = record { processes = laid n records blank; held = n }
+
+  abbrev whole : Table
+  whole = record { processes = records; held = length records }
+
+  abbrev in-table : Lent
+  in-table = lent (laid n records blank) words log answers
 
   abbrev lends : Lent
   lends = lent records words log answers
@@ -95,36 +105,36 @@ module _ (f : List ℕ) (records : List Process) (words log answers : List ℕ) 
   held = omega arith
 
   -- the verdict over the table is the verdict over the list
-  verdict-alike : (h : Header) → h .processes ≤ 16 → judged h f n k table ≡ judged h f (length records) k lends
+  verdict-alike : (h : Header) → h .processes ≤ 16 → judged h f table room k ≡ judged h f whole room k
   unfolding judged
   verdict-alike h few = rw (← (short-alike (length records) (h .processes) few)) (go (ltb (length words) (h .words)) (ltb n (h .processes)) refl _)
     where
       go : (a c : Bool) → ltb n (h .processes) ≡ c → (rest : Verdict)
-          → andThen (cond a (Not (Run WordsRoom) 0) (cond c (Not (Run WordsRoom) 0) rest)) (sound h f (laid n records blank) byte position)
-          ≡ andThen (cond a (Not (Run WordsRoom) 0) (cond c (Not (Run WordsRoom) 0) rest)) (sound h f records byte position)
+          → andThen (cond a (Not (Run WordsRoom) 0) (cond c (Not (Run WordsRoom) 0) rest)) (sound h f (laid n records blank) k)
+          ≡ andThen (cond a (Not (Run WordsRoom) 0) (cond c (Not (Run WordsRoom) 0) rest)) (sound h f records k)
       go true c q rest = refl
       go false true q rest = refl
       go false false q rest = rw (any-laid records blank n held (tableOf h f) 0 (h .processes) (let l = ltb-false n (h .processes) q in omega arith)) refl
 
   -- and so are the state that is lent and the state after the byte, of P records
-  state-alike : (h : Header) → h .processes ≤ n → stepped h f k table ≡ stepped h f k lends
+  state-alike : (h : Header) → h .processes ≤ n → stepped h f in-table k ≡ stepped h f lends k
   unfolding stepped stateOf
   state-alike h few =
-      ap (λ ps. step (tableOf h f) position byte (record { words = words; processes = ps; log = rowsOf logRows log; answers = rowsOf answerRows answers }))
+      ap (λ ps. step (tableOf h f) (k .position) (k .byte) (record { words = words; processes = ps; log = rowsOf (k .log) log; answers = rowsOf (k .answers) answers }))
       (take-laid records blank n held (h .processes) few)
 
-  all-there : (h : Header) → h .processes ≤ n → length (stepped h f k lends .processes) ≡ h .processes
+  all-there : (h : Header) → h .processes ≤ n → length (stepped h f lends k .processes) ≡ h .processes
   unfolding stepped stateOf
-  all-there h few = grows (tableOf h f) position byte (stateOf (h .processes) k lends) .processes ∙ length-take-le (h .processes) records (omega arith)
+  all-there h few = grows (tableOf h f) (k .position) (k .byte) (stateOf (h .processes) lends k) .processes ∙ length-take-le (h .processes) records (omega arith)
 
   -- what is pressed over the table and laid back is what is pressed over the list
-  alike : (v : Verdict) → ((h : Header) → v ≡ Fine h → h .processes ≤ n) → givenBack n records (pressedAs v f k table) ≡ pressedAs v f k lends
-  alike (Not why place) room = ap (λ l. record { outcome = Refused why place; processes = l; words = words; log = log; answers = answers }) (laid-same records blank n held)
-  alike (Fine h) room =
+  alike : (v : Verdict) → ((h : Header) → v ≡ Fine h → h .processes ≤ n) → givenBack n records (pressedAs v f in-table k) ≡ pressedAs v f lends k
+  alike (Not why place) fits = ap (λ l. record { outcome = Refused why place; processes = l; words = words; log = log; answers = answers }) (laid-same records blank n held)
+  alike (Fine h) fits =
       let P = h .processes in
-      let few : P ≤ n = room h refl in
-      let same : stepped h f k table ≡ stepped h f k lends = state-alike h few in
-      let all : length (stepped h f k lends .processes) ≡ P = all-there h few in
+      let few : P ≤ n = fits h refl in
+      let same : stepped h f in-table k ≡ stepped h f lends k = state-alike h few in
+      let all : length (stepped h f lends k .processes) ≡ P = all-there h few in
       ap (λ s. record {
         outcome = Went (length (s .log)) (length (s .answers));
         processes = laid n (s .processes ++ drop P (laid n records blank)) records;
@@ -133,19 +143,19 @@ module _ (f : List ℕ) (records : List Process) (words log answers : List ℕ) 
         answers = infront (flat (s .answers)) answers;
       }) same
       ∙ ap (λ l. record {
-        outcome = Went (length (stepped h f k lends .log)) (length (stepped h f k lends .answers));
+        outcome = Went (length (stepped h f lends k .log)) (length (stepped h f lends k .answers));
         processes = l;
-        words = stepped h f k lends .words;
-        log = infront (flat (stepped h f k lends .log)) log;
-        answers = infront (flat (stepped h f k lends .answers)) answers;
-      }) (laid-front records blank n held (stepped h f k lends .processes) P all few)
+        words = stepped h f lends k .words;
+        log = infront (flat (stepped h f lends k .log)) log;
+        answers = infront (flat (stepped h f lends k .answers)) answers;
+      }) (laid-front records blank n held (stepped h f lends k .processes) P all few)
 
   -- over the table and laid back, and over the list
-  pub keyed-is : givenBack n records (pressed f n (laid n records blank) words log answers byte position logRows answerRows) ≡ keyed f records words log answers byte position logRows answerRows
+  pub keyed-is : givenBack n records (pressed f table words log answers k) ≡ keyed f records words log answers k
   unfolding keyed pressed verdictOf
   keyed-is = go (refusalOf f ample) refl
     where
-      go : (c : Checked) → refusalOf f ample ≡ c → givenBack n records (pressedAs (judgedAs c f n k table) f k table) ≡ pressedAs (judgedAs c f (length records) k lends) f k lends
+      go : (c : Checked) → refusalOf f ample ≡ c → givenBack n records (pressedAs (judgedAs c f table room k) f in-table k) ≡ pressedAs (judgedAs c f whole room k) f lends k
       go (checked.Refused why place) q = alike (Not (Run why) place) (λ h e. absurd (not-fine e))
       go (checked.Accepted h) q =
-          alike (judged h f n k table) (λ g e. list-room h f n k table g e) ∙ ap (λ v. pressedAs v f k lends) (verdict-alike h (lawful f ample h q .head .processes))
+          alike (judged h f table room k) (λ g e. list-room h f table room k g e) ∙ ap (λ v. pressedAs v f lends k) (verdict-alike h (lawful f ample h q .head .processes))
