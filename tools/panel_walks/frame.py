@@ -1,11 +1,14 @@
 """What every file of a walk has: its imports, the contracts that it cites, and the way from the walk to the statement."""
 import os
 import re
+import sys
 
-from names import CONTRACTS, CRATE, MODULE, dashed, symbol
+from names import CONTRACTS, MODULE, crate_of, dashed, symbol
 from walk import tuple_of
 
 HERE = os.path.dirname(os.path.abspath(__file__))
+# the folder in which crates/ stands
+ROOT = sys.argv[1] if len(sys.argv) > 1 else '.'
 
 
 def read(name):
@@ -27,6 +30,12 @@ MODEL = '(𝓤 : URA M) (H : Heap 𝓤) (A : Atoms 𝓤) (mem : Memory → SProp
 GIVEN = '(𝓤 : URA M) (H : Heap 𝓤) (A : Atoms 𝓤) (W : Given 𝓤 H A) (mem : Memory → SProp 𝓤) (run : Routine → Fun 𝓤)'
 
 
+def proofs_of(function, here):
+    """The module of a function's proof, as a file of the crate `here` names it."""
+    crate = crate_of(function)
+    return f'Rattle.{crate}' + ('·proofs' if crate == here else '') + '.proofs.' + MODULE.get(function, '') + function
+
+
 def imports(function, callees, body):
     words = set(re.split(r'[\s(){};,]+', re.sub(r'--.*', '', body)))
     words |= {w.strip('.') for w in words}
@@ -39,11 +48,13 @@ def imports(function, callees, body):
                 out.append(f'use {m.group(1)}.{{{", ".join(names)}}}')
         elif re.search(r'(?<![\w·′-])' + re.escape(line.split(' as ')[1]) + r'\.', body):
             out.append('use ' + line)
-    base = f'Rattle.{CRATE}.proofs.'
+    here = crate_of(function)
+    if here != 'panel':
+        out = [re.sub('Rattle·panel·(specs|proofs)[.]', 'Rattle.panel.', line) for line in out]
     for c in callees:
-        d, at = dashed(c), base + MODULE.get(c, '') + c
+        d, at = dashed(c), proofs_of(c, here)
         out += [f'use {at} as {d}', f'use {at}.Symbol as {d}-def', f'use {at}.Symbol.{{name as {symbol(c)}}}', f'use {at}.Met as {d}-thm']
-    at = base + MODULE.get(function, '') + function
+    at = proofs_of(function, here)
     out += [f'use {at}.Key.{{name as {symbol(function)}}}', f'use {at} as f', f'use {at}.Statement as stated', f'use {at}.Code as code']
     if 'turned.' in body:
         out.append(f'use {at}.Code.Mir as turned')
@@ -132,7 +143,7 @@ def write(function, callees, values):
     values = dict(values, types=TYPES, model=MODEL, given=GIVEN)
     head, body = read(function + '.txt').split('⟦imports⟧\n')
     body = re.sub('⟦([^⟧]*)⟧', lambda m: values[m.group(1)], body)
-    at = f'crates/{CRATE}/proofs/{MODULE.get(function, "").replace(".", "/")}{function}'
+    at = f'{ROOT}/crates/{crate_of(function)}/proofs/{MODULE.get(function, "").replace(".", "/")}{function}'
     os.makedirs(at, exist_ok=True)
     with open(at + '/Proof.antt', 'w') as f:
         f.write(head + imports(function, callees, body) + '\n' + body)

@@ -1,4 +1,4 @@
-"""The walks of `key` and `key_on_table`: slices are handed on, and come back."""
+"""The walks of `key` and of the program's `lend_records`: slices are handed on, and come back."""
 from frame import closing, contract, known, said, stayed, write
 from names import CONTRACTS, dashed, number_typed, own_number, own_struct, own_table, slice_typed, struct_typed, table_typed
 from walk import Walk, asked, items, left, local, part, sub, tuple_of, type_of
@@ -7,8 +7,8 @@ LISTS = ['file', 'records', 'words', 'log', 'answers']
 ELEMENTS = ['u8', 'R', 'u32', 'u32', 'u32']
 K, Q, B, O, G, X, S = [[c + sub(k) for k in range(5)] for c in 'κqboγxs']
 ROOMS = ['room' + sub(k) for k in range(5)]
-# what comes with the key: the last parameter of `press`, `key` and `key_on_table`, a struct; v-stroke is its machine value
-OWN_KEY = own_struct('S', 'stroke', 'stroke-is')
+# what comes with the key: the last parameter of `press`, `key` and `lend_records`, a struct; v-stroke is its machine value
+OWN_STROKE = own_struct('S', 'stroke', 'stroke-is')
 AFTER = ' '.join(f'{x}′' for x in LISTS[1:])
 
 
@@ -65,13 +65,14 @@ def pick_lasts(w, name, lasts, types, applied, slices, fact, heard):
     w.line()
 
 
-def frame_of(slices, table):
+def frame_of(slices, struct=None):
     """The parameters by name: references, machine values, and the arguments as the signature has them."""
     refs = '\n'.join(f'  abbrev {X[k]} : RefT ({denoted(k)})\n  {X[k]} = record {{ ptr = ({B[k]}, {O[k]}); name = {G[k]}; now = {LISTS[k]} }}\n' for k in slices)
     vals = '\n'.join(f'  abbrev {S[k]} : Val\n  {S[k]} = sliceVal ({B[k]}, {O[k]}) (length {LISTS[k]})\n' for k in slices)
     xs, ss, ts = [X[k] for k in slices], [f'{S[k]} ∷ []' for k in slices], [f'RefT ({denoted(k)})' for k in slices]
-    if table:
-        xs[1:1], ss[1:1], ts[1:1] = ['processes'], ['v ∷ []'], ['List Process']
+    if struct:
+        name, value, ty = struct
+        xs[1:1], ss[1:1], ts[1:1] = [name], [f'{value} ∷ []'], [ty]
     return f"""{refs}
 {vals}
   abbrev Arg : Type 0
@@ -95,20 +96,31 @@ def binders(slices):
     return f"({' '.join(K[k] for k in slices)} : Lft) ({' '.join(Q[k] for k in slices)} : Share)" + ''.join(f' ({B[k]} {O[k]} : ℕ) ({G[k]} : GName) ({LISTS[k]} : {denoted(k)})' for k in slices)
 
 
-KEY_BINDERS = '(stroke : Stroke) (v-stroke : Val) (stroke-is : Is S.the-row stroke (v-stroke ∷ []))'
-KEY_PARAM = ('plain', 'S.the-row')
-KEY_VALS = 'LL.vals S.the-type S′.the-laws'
-KEY_TELLS = 'LL.tells S.the-type S′.the-laws'
+STROKE_BINDERS = '(stroke : Stroke) (v-stroke : Val) (stroke-is : Is S.the-row stroke (v-stroke ∷ []))'
+STROKE_PARAM = ('plain', 'S.the-row')
+STROKE_VALS = 'LL.vals S.the-type S′.the-laws'
+STROKE_TELLS = 'LL.tells S.the-type S′.the-laws'
 KEYED = 'Keyed file records words log answers stroke'
 
 
-def handed_key(at):
-    """The key, its machine value, and that this is its value, from what `walked` hands on; at: its place among the parameters."""
-    return f'({part("a", at)}) (only (LL.vals S.the-type S′.the-laws ({part("a", at)}))) ({part("are", at)})'
+def handed_struct(module, at):
+    """A struct, its machine value, and that this is its value, from what `walked` hands on; at: its place among the parameters."""
+    return f'({part("a", at)}) (only (LL.vals {module}.the-type {module}′.the-laws ({part("a", at)}))) ({part("are", at)})'
 
 
 def handed_slices(at):
     return ' '.join(' '.join(f'({part("a", k)} {p})' for p in ['.ptr .0', '.ptr .1', '.name', '.now']) for k in at)
+
+
+def handed_over(tokens, owns):
+    """What a callee is given that asks nothing: the tokens, and what its parameters own, as one."""
+    g = Walk(tokens + [o for o in owns if not o.startswith('owned')], 0, 6)
+    g.tokens(tokens)
+    g.owning(owns)
+    g.join('tokens', 'has', 'all')
+    g.give_up()
+    g.write('done !')
+    return g.text()
 
 
 def handed_on(c, names):
@@ -137,7 +149,7 @@ BUFFERS = ' '.join(f'({part("vs", k)})' for k in [2, 3, 4])
 def key_exit():
     lasts = [f'last{k}' for k in [1, 2, 3, 4]]
     tokens = [f'token{k}' for k in ALL]
-    return left(tokens + ['own0'] + lasts + ['result'], tokens, ['own0'] + lasts + [OWN_KEY])
+    return left(tokens + ['own0'] + lasts + ['result'], tokens, ['own0'] + lasts + [OWN_STROKE])
 
 
 def take_asked():
@@ -146,8 +158,7 @@ def take_asked():
 
 def press_asked():
     tokens = [f'token{k}' for k in PRESS_SLICES]
-    owns = ['own0', own_struct('B', 't', 'tt′'), 'own2', 'own3', 'own4', OWN_KEY]
-    return asked(tokens + [f'own{k}' for k in PRESS_SLICES], 'small', owns, tokens)
+    return handed_over(tokens, ['own0', own_struct('B', 't', 'tt′'), 'own2', 'own3', 'own4', OWN_STROKE])
 
 
 def give_asked():
@@ -242,7 +253,7 @@ def key_presses(c):
         c.lend_on(p, s - 1, s, f'{ROOMS[p - 1]} .0')
     names = [f'token{k}' for k in PRESS_SLICES] + [f'own{k}' for k in PRESS_SLICES]
     handed_on(c, names)
-    c.call('press', 'handed', '(to-press t w₃)', '(goes-press t w₃ tt′ (small-table t n (tabled .1) (count .1)))', [1, TABLE, WORDS, LOG, ANSWERS, 6], PRESS_APPLIED, ('m', 'After', 'N.the-row', 'w₄'), tokens_of(PRESS_SLICES))
+    c.call('press', 'handed', '(to-press t w₃)', '(goes-press t w₃ tt′)', [1, TABLE, WORDS, LOG, ANSWERS, 6], PRESS_APPLIED, ('m', 'After', 'N.the-row', 'w₄'), tokens_of(PRESS_SLICES))
     pick_lasts(c, 'press', 'vs', ['Unit {0}'] * 2 + ['List ℕ'] * 3 + ['Unit {0}'], PRESS_APPLIED, {2: 2, 3: 3, 4: 4}, f'PressSays t m {BUFFERS}', 'pressed-is')
     c.split('back', 'tokens', 'own-m')
     c.apart('tokens', [f'token{k}' for k in PRESS_SLICES])
@@ -324,31 +335,31 @@ def key_said():
     }
 
 
-def entered(callees, slices, table=''):
+def entered(callees, slices, struct=''):
     """The walk, applied to what `walked` hands on."""
     count = len(slices)
     return f"""via 𝓤 _ (fst∗ 𝓤 _ (emp 𝓤))
       (walk 𝓤 H A W mem run {' '.join(f'({part("κs", k)})' for k in range(count))} {' '.join(f'({part("qs", k)})' for k in range(count))}
-      {handed_slices(slices)}{table}
-      {handed_key(5)} C Λ fm {' '.join(CONTRACTS[x][1] for x in callees)} {' '.join(f'({part("are", k)} .0 .1)' for k in slices)})"""
+      {handed_slices(slices)}{struct}
+      {handed_struct('S', 5)} C Λ fm {' '.join(CONTRACTS[x][1] for x in callees)} {' '.join(f'({part("are", k)} .0 .1)' for k in slices)})"""
 
 
 def key_closing(callees, params):
-    tells = [f'{"shr" if k == 0 else "mut"}-slice-tells (named {k}) ({part("κs", k)}) {ELEMENTS[k]}' for k in ALL] + [KEY_TELLS]
-    return closing('key', callees, 5, params, ['slice-vals'] * 5 + [KEY_VALS], tells, entered(callees, ALL), False)
+    tells = [f'{"shr" if k == 0 else "mut"}-slice-tells (named {k}) ({part("κs", k)}) {ELEMENTS[k]}' for k in ALL] + [STROKE_TELLS]
+    return closing('key', callees, 5, params, ['slice-vals'] * 5 + [STROKE_VALS], tells, entered(callees, ALL), False)
 
 
 def key():
     callees = ['held', 'take', 'table_of', 'press', 'processes_of', 'give']
-    params = [('seen', 0, 'u8')] + [('given', k, ELEMENTS[k]) for k in [1, 2, 3, 4]] + [KEY_PARAM]
+    params = [('seen', 0, 'u8')] + [('given', k, ELEMENTS[k]) for k in [1, 2, 3, 4]] + [STROKE_PARAM]
     write('key', callees, {
         **press_values(),
         **key_said(),
         'stayed': stayed(params),
         'contracts': '\n'.join(contract(x) for x in callees),
         'binders': binders(ALL),
-        'key': KEY_BINDERS,
-        'frame': frame_of(ALL, False),
+        'stroke': STROKE_BINDERS,
+        'frame': frame_of(ALL),
         'keyed': KEYED,
         'after': AFTER,
         'left': items(KEY_LEFT),
@@ -374,18 +385,18 @@ def key():
     })
 
 
-# ---- key_on_table
+# ---- lend_records
 
 OWN_SLICES = [0, 2, 3, 4]
 LIFETIME = {0: 0, 2: 1, 3: 2, 4: 3}
-TABLE_SIZE = 18
-# its locals after the result and the parameters: the records in memory, the outcome; a reference and a slice for each slice; the records again
-RECORDS, OUTCOME, REF, ON_RECORDS, ON_WORDS, ON_LOG, ON_ANSWERS, AGAIN = 7, 8, 9, 10, 12, 14, 16, 17
+LEND_SIZE = 18
+# its locals after the result and the six parameters: the records in memory, the outcome; the records by value, before and after the call; a
+# reference and a slice for each slice
+RECORDS, OUTCOME, VALUE, REF, ON_RECORDS, ON_WORDS, ON_LOG, ON_ANSWERS = 7, 8, 9, 10, 11, 13, 15, 17
 MEMORY = local(RECORDS)
-TABLE_KEYED = KEYED.replace('records', 'processes')
-TABLE_AFTER = AFTER.split()[1:]
+LEND_AFTER = AFTER.split()[1:]
 # what `key` leaves in the lent records and in the buffers
-TABLE_LEFT = f'({part("vs", 1)})'
+RECORDS_LEFT = f'({part("vs", 1)})'
 BUFFERS_LEFT = ' '.join(f'({part("vs", k)})' for k in [2, 3, 4])
 
 
@@ -394,147 +405,155 @@ def own_here(k):
 
 
 def lent_records(at):
-    return f'‵ (MutSlice (named 0) (ν ∷ []) R .own (lent-as {at} δ) (sliceVal ({at}, 0) (length processes) ∷ []))'
+    return f'‵ (MutSlice (named 0) (ν ∷ []) R .own (lent-as records {at} δ) (sliceVal ({at}, 0) (length records) ∷ []))'
 
 
 # what is handed to `key`
 ON_NAMES = ['token0', 'token'] + [f'token{k}' for k in [2, 3, 4]] + ['own0', 'own1'] + [f'own{k}' for k in [2, 3, 4]]
 ON_GIVEN = [token(0), '‵ (flft (ν ∷ []) fullShare)'] + [token(k) for k in [2, 3, 4]] + [own_here(0), lent_records('l')] + [own_here(k) for k in [2, 3, 4]]
-ON_LEFT = [token(k) for k in OWN_SLICES] + [own_here(0)] + [last(k) for k in [2, 3, 4]] + ['‵ (N.the-row .own r (w ∷ []))']
+ON_LEFT = [token(k) for k in OWN_SLICES] + [own_here(0)] + [last(k) for k in [2, 3, 4]] + ['‵ (P.the-row .own r (w ∷ []))']
+OWN_BENCH = own_struct('D', 'bench', 'bench-is')
 
 
-def table_exit():
+def lend_exit():
     lasts = [f'last{k}' for k in [2, 3, 4]]
     tokens = [f'token{k}' for k in OWN_SLICES]
-    return left(tokens + ['own0'] + lasts + ['result'], tokens, ['own0', own_table('processes', 'table-is')] + lasts + [OWN_KEY])
+    return left(tokens + ['own0'] + lasts + ['result'], tokens, ['own0', OWN_BENCH] + lasts + [OWN_STROKE])
 
 
-def key_asked():
-    g = Walk(ON_NAMES, 0, 6)
-    g.tokens(ON_NAMES[:5])
-    g.owning(ON_NAMES[5:] + [OWN_KEY])
-    g.join('tokens', 'has', 'all')
-    g.give_up()
-    g.write('done !')
-    return g.text()
-
-
-def table_enters():
-    c = Walk(['tokens', 'owns'], TABLE_SIZE)
+def lend_enters():
+    c = Walk(['tokens', 'owns'], LEND_SIZE)
     c.alloc()
     c.line()
     c.param(1, slice_typed('room₀ .0'))
-    c.param(2, table_typed('processes', 'table-is'))
+    c.param(2, struct_typed('D', 'bench', 'bench-is'))
     for k in [2, 3, 4]:
         c.param(k + 1, slice_typed(f'{ROOMS[k]} .0'))
     c.param(6, struct_typed('S', 'stroke', 'stroke-is'))
     c.write('pass0 ! $ ')
     c.line('what the parameters own, and the tokens, are taken apart; what the file owns is had twice, for `key` and for the exit')
-    c.fapart('owns', ['own0', 'table', 'own2', 'own3', 'own4'])
-    c.drop('table')
+    c.fapart('owns', ['own0', 'bench', 'own2', 'own3', 'own4'])
+    c.drop('bench')
     c.apart('tokens', [f'token{k}' for k in OWN_SLICES])
     c.rule(f'use1 W ({own_here(0)} ⊛ {own_here(0)}) (shr-slice-copy 𝓤 H A W (named 0) κ₀ u8 .twice x₀ (s₀ ∷ [])) $', ['own0'], ['both'])
     c.split('both', 'own0', 'copy0')
-    c.line('the table is copied into memory, and its place is taken')
-    c.assign(RECORDS, f'(of-opd ! {c.copy(2)})', table_typed('processes', 'table-is'))
+    return c
+
+
+def lend_takes_out(c):
+    c.line('records = records_of(bench)')
+    c.push('nothing ! $', 'end')
+    c.call('records_of', 'end', 'to-records-of', 'goes-records-of', [2], 'tt (bench, tt)', ('records', 'List Process', 'RA', 'w₁'))
+    c.hears('(records ≡ bench .records)', '(records-are 𝓤 H A mem run bench records)', 'out')
+    c.split('back', 'end', 'own-records')
+    c.drop('end')
+    c.peek('records', 'RA', '(w₁ ∷ [])', 'st')
+    c.land(VALUE, table_typed('records', 'st'))
+    c.drop('own-records')
     c.line()
+    c.assign(RECORDS, f'(of-opd ! {c.copy(VALUE)})', table_typed('records', 'st'))
+
+
+def lend_places(c):
+    c.line('their place is taken, and the buffers are lent on')
     c.assign(REF, '(addr ! (from ! (stop !)))', '(tt, tt)')
     c.line()
     c.assign(ON_RECORDS, f'(agg ! {c.operands(c.copy(REF), "(lit ! tt)")})', slice_typed('lit< tt'))
     c.line()
     for p, s in zip([3, 4, 5], [ON_WORDS, ON_LOG, ON_ANSWERS]):
         c.lend_on(p, s - 1, s, f'{ROOMS[p - 1]} .0')
-    return c
 
 
-def table_lends(c):
-    c.line('its records are lent for a lifetime of the call')
-    c.rule(f'use1 W (‵ (cellAt fullShare (RA .mir) (v ∷ []) {MEMORY} 0)) (W .laws .at-raw fullShare arr {MEMORY} 0 v) $', [f'_{RECORDS}'], ['cell'])
-    c.push(own_table('processes', 'table-is') + ' $', 'table')
+def lend_lends(c):
+    c.line('the records are lent for a lifetime of the call')
+    c.rule(f'use1 W (‵ (cellAt fullShare (RA .mir) (w₁ ∷ []) {MEMORY} 0)) (W .laws .at-raw fullShare arr {MEMORY} 0 w₁) $', [f'_{RECORDS}'], ['cell'])
+    c.push(own_table('records', 'st') + ' $', 'table')
     c.join('cell', 'table', 'both')
-    c.rule(f'use1 W (‵ (partAt RA fullShare processes {MEMORY} 0)) (part-in 𝓤 H A W processes v {MEMORY} 0) $', ['both'], ['part'])
+    c.rule(f'use1 W (‵ (partAt RA fullShare records {MEMORY} 0)) (part-in 𝓤 H A W records w₁ {MEMORY} 0) $', ['both'], ['part'])
     c.line()
-    c.rule(f'use1 W (‵ (arr-parts (shares R) 16 .part fullShare processes {MEMORY} 0)) (array-apart 𝓤 H A W R fullShare tt 16 processes {MEMORY} 0) $', ['part'], ['parts'])
+    c.rule(f'use1 W (‵ (arr-parts (shares R) 16 .part fullShare records {MEMORY} 0)) (array-apart 𝓤 H A W R fullShare tt 16 records {MEMORY} 0) $', ['part'], ['parts'])
     c.fsplit('parts', 'eq', 'row')
     c.front('eq')
     c.bind('feqL ! (λ sixteen.')
     c.held.pop(0)
     c.line()
     c.rewrite(f'_{ON_RECORDS}', f'(λ (m : ℕ). ‵ (fat fullShare slE {local(ON_RECORDS)} 0 (sliceVal ({MEMORY}, 0) m)))', '(sym sixteen)')
-    c.rule(f'use1 W (‵ (cells (memory R) processes {MEMORY} 0)) (whole-in 𝓤 H A W R processes {MEMORY} 0) $', ['row'], ['cells'])
+    c.rule(f'use1 W (‵ (cells (memory R) records {MEMORY} 0)) (whole-in 𝓤 H A W R records {MEMORY} 0) $', ['row'], ['cells'])
     c.line()
     c.bind('lft-new ! tt (λ ν.')
     c.held.insert(0, 'token')
     c.front('cells')
-    c.bind(f'use1 W (later (some (λ (δ : GName). {lent_records(MEMORY)} ⊛ ‵ (flent (ν ∷ []) (Held R (length processes) {MEMORY} 0 δ))))) (lends-slice 𝓤 H A W R (named 0) (ν ∷ []) processes {MEMORY} 0 (room-of sixteen)) $ await ! tt $ pick ! (λ δ.')
+    c.bind(f'use1 W (later (some (λ (δ : GName). {lent_records(MEMORY)} ⊛ ‵ (flent (ν ∷ []) (Held R (length records) {MEMORY} 0 δ))))) (lends-slice 𝓤 H A W R (named 0) (ν ∷ []) records {MEMORY} 0 (room-of sixteen)) $ await ! tt $ pick ! (λ δ.')
     c.held[0] = 'both'
     c.line()
     c.split('both', 'own1', 'lent')
 
 
-def table_keys(c):
-    c.line('outcome = key(file, records, words, ..)')
+def lend_keys(c):
+    c.line('outcome = panel::key(file, &mut records, words, log, answers, key)')
     handed_on(c, ON_NAMES)
-    applied = f'(κ₀, (ν ∷ [], (κ₂, (κ₃, (κ₄, tt))))) {tuple_of(["x₀", f"lent-as {MEMORY} δ", "x₂", "x₃", "x₄", "stroke"])}'
-    says = f'{TABLE_KEYED} r {TABLE_LEFT} {BUFFERS_LEFT}'
-    c.call('key', 'handed', f'(to-key {MEMORY} ν δ)', f'(goes-key {MEMORY} ν δ)', [1, ON_RECORDS, ON_WORDS, ON_LOG, ON_ANSWERS, 6], applied, ('r', 'Outcome', 'O.the-row', 'w₁'), tokens_of([2, 3, 4], [token(0), '‵ (flft (ν ∷ []) fullShare)']))
-    pick_lasts(c, 'key', 'vs', ['Unit {0}', 'List Process', 'List ℕ', 'List ℕ', 'List ℕ'] + ['Unit {0}'], applied, {1: 1, 2: 2, 3: 3, 4: 4}, says, 'is')
+    applied = f'(κ₀, (ν ∷ [], (κ₂, (κ₃, (κ₄, tt))))) {tuple_of(["x₀", f"lent-as records {MEMORY} δ", "x₂", "x₃", "x₄", "stroke"])}'
+    says = f'{KEYED} r {RECORDS_LEFT} {BUFFERS_LEFT}'
+    c.call('key', 'handed', f'(to-key records {MEMORY} ν δ)', f'(goes-key records {MEMORY} ν δ)', [1, ON_RECORDS, ON_WORDS, ON_LOG, ON_ANSWERS, 6], applied, ('r', 'Outcome', 'O.the-row', 'w₂'), tokens_of([2, 3, 4], [token(0), '‵ (flft (ν ∷ []) fullShare)']))
+    pick_lasts(c, 'key', 'vs', ['Unit {0}', 'List Process', 'List ℕ', 'List ℕ', 'List ℕ', 'Unit {0}'], applied, {1: 1, 2: 2, 3: 3, 4: 4}, says, 'is')
     c.split('back', 'tokens', 'own-r')
     c.apart('tokens', ['token0', 'token', 'token2', 'token3', 'token4'])
-    c.peek('r', 'O.the-row', '(w₁ ∷ [])', 'rt')
+    c.peek('r', 'O.the-row', '(w₂ ∷ [])', 'rt')
     c.land(OUTCOME, '(LE.lawful O.the-type O′.the-laws 𝓤 H A W tt .typed r _ rt .0)')
     c.drop('own-r')
 
 
-def table_back(c):
-    c.line('the lifetime is ended, and the table is back')
+def lend_back(c):
+    c.line('the lifetime is ended, and the records are back')
     c.rule('lft-end ! tt $', ['token'], ['dead'])
-    c.rule(f'use3 W (later (‵ (Arr (memory R) (length processes) .lies {TABLE_LEFT} {MEMORY} 0))) (slice-back 𝓤 H A W R (ν ∷ []) δ {TABLE_LEFT} (length processes) {MEMORY} 0) $ await ! tt $', ['dead', 'lent', 'last1'], ['lies'])
+    c.rule(f'use3 W (later (‵ (Arr (memory R) (length records) .lies {RECORDS_LEFT} {MEMORY} 0))) (slice-back 𝓤 H A W R (ν ∷ []) δ {RECORDS_LEFT} (length records) {MEMORY} 0) $ await ! tt $', ['dead', 'lent', 'last1'], ['lies'])
     c.fsplit('lies', 'eq', 'cells')
     c.drop('eq')
-    c.rule(f'use1 W (‵ (row R fullShare {TABLE_LEFT} {MEMORY} 0)) (whole-out 𝓤 H A W R {TABLE_LEFT} {MEMORY} 0) $', ['cells'], ['row'])
+    c.rule(f'use1 W (‵ (row R fullShare {RECORDS_LEFT} {MEMORY} 0)) (whole-out 𝓤 H A W R {RECORDS_LEFT} {MEMORY} 0) $', ['cells'], ['row'])
     c.line()
-    c.push(f'feqI ! ℕ (length {TABLE_LEFT}) 16 (len₁ ∙ sixteen) $', 'eq')
+    c.push(f'feqI ! ℕ (length {RECORDS_LEFT}) 16 (len₁ ∙ sixteen) $', 'eq')
     c.fjoin('eq', 'row', 'parts')
-    c.rule(f'use1 W (‵ (partAt RA fullShare {TABLE_LEFT} {MEMORY} 0)) (array-whole 𝓤 H A W R fullShare 16 {TABLE_LEFT} {MEMORY} 0) $', ['parts'], ['part'])
+    c.rule(f'use1 W (‵ (partAt RA fullShare {RECORDS_LEFT} {MEMORY} 0)) (array-whole 𝓤 H A W R fullShare 16 {RECORDS_LEFT} {MEMORY} 0) $', ['parts'], ['part'])
     c.line()
-    c.bind(f'use1 W (some (λ (us : List Val). ‵ (cellAt fullShare (RA .mir) us {MEMORY} 0) ⊛ ‵ (RA .own {TABLE_LEFT} us))) (part-out 𝓤 H A W {TABLE_LEFT} {MEMORY} 0) $ pick ! (λ us.')
+    c.bind(f'use1 W (some (λ (us : List Val). ‵ (cellAt fullShare (RA .mir) us {MEMORY} 0) ⊛ ‵ (RA .own {RECORDS_LEFT} us))) (part-out 𝓤 H A W {RECORDS_LEFT} {MEMORY} 0) $ pick ! (λ us.')
     c.held[0] = 'both'
     c.split('both', 'cell', 'table')
     c.line()
-    c.rule(f'spelt ! RA (Is RA) (shows 𝓤 H A RA) (array-vals vals) (array-tells R vals (LL.tells T.the-type T′.the-laws) 16) fullShare {TABLE_LEFT} us {MEMORY} 0 $', ['cell', 'table'], ['cell', 'own-t'])
+    c.rule(f'spelt ! RA (Is RA) (shows 𝓤 H A RA) (array-vals vals) (array-tells R vals (LL.tells T.the-type T′.the-laws) 16) fullShare {RECORDS_LEFT} us {MEMORY} 0 $', ['cell', 'table'], ['cell', 'own-t'])
     c.line()
     c.front('own-t')
-    c.bind(f'peeks ! RA (Is RA) (shows 𝓤 H A RA) {TABLE_LEFT} (array-vals vals {TABLE_LEFT}) (λ zt.')
+    c.bind(f'peeks ! RA (Is RA) (shows 𝓤 H A RA) {RECORDS_LEFT} (array-vals vals {RECORDS_LEFT}) (λ zt.')
     c.drop('own-t')
     c.line()
-    c.rule(f'use1 W (‵ (fat fullShare arr {MEMORY} 0 (only (array-vals vals {TABLE_LEFT})))) (W .laws .raw-at fullShare arr {MEMORY} 0 (only (array-vals vals {TABLE_LEFT}))) $', ['cell'], [f'_{RECORDS}'])
+    c.rule(f'use1 W (‵ (fat fullShare arr {MEMORY} 0 (only (array-vals vals {RECORDS_LEFT})))) (W .laws .raw-at fullShare arr {MEMORY} 0 (only (array-vals vals {RECORDS_LEFT}))) $', ['cell'], [f'_{RECORDS}'])
 
 
-def table_leaves(c):
-    c.line('after_of(records, outcome)')
-    c.assign(AGAIN, f'(of-opd ! {c.copy(RECORDS)})', table_typed(TABLE_LEFT, 'zt'))
+def lend_leaves(c):
+    c.line('with_records(bench, records, outcome)')
+    c.assign(VALUE, f'(of-opd ! {c.copy(RECORDS)})', table_typed(RECORDS_LEFT, 'zt'), 'store')
     c.line()
     c.push('nothing ! $', 'end')
-    c.call('after_of', 'end', f'(to-after-of {TABLE_LEFT} r w₁)', f'(goes-after-of {TABLE_LEFT} r w₁ zt rt)', [AGAIN, OUTCOME], f'tt ({TABLE_LEFT}, (r, tt))', ('m', 'After', 'N.the-row', 'w₂'))
-    c.hears(f'((m .processes ≡ {TABLE_LEFT}) × (m .outcome ≡ r))', f'(after-is 𝓤 H A mem run {TABLE_LEFT} r m)', 'made')
+    c.call('with_records', 'end', f'(to-with-records {RECORDS_LEFT} r w₂)', f'(goes-with-records {RECORDS_LEFT} r w₂ zt rt)', [2, VALUE, OUTCOME], f'tt (bench, ({RECORDS_LEFT}, (r, tt)))', ('m', 'Pressed', 'P.the-row', 'w₃'))
+    c.hears(f'((m .bench .records ≡ {RECORDS_LEFT}) × (m .outcome ≡ r))', f'(given-back 𝓤 H A mem run bench {RECORDS_LEFT} r m)', 'made')
     c.split('back', 'end', 'own-m')
     c.drop('end')
-    c.peek('m', 'N.the-row', '(w₂ ∷ [])', 'mt')
-    c.land(0, '(LL.lawful N.the-type N′.the-laws 𝓤 H A W .typed m _ mt .0)')
+    c.peek('m', 'P.the-row', '(w₃ ∷ [])', 'mt')
+    c.land(0, struct_typed('P', 'm', 'mt'))
     c.line()
-    c.leave(range(TABLE_SIZE))
+    c.leave(range(LEND_SIZE))
     c.keep([f'token{k}' for k in OWN_SLICES] + ['copy0'] + [f'last{k}' for k in [2, 3, 4]] + ['own-m'])
     c.line()
-    c.write(f'by ! (exits m w₂ {BUFFERS_LEFT} (joined-table (keyed file processes words log answers stroke) r {TABLE_LEFT} {BUFFERS_LEFT} m is made) len₂ len₃ len₄)')
+    c.write(f'by ! (exits m w₃ {BUFFERS_LEFT} (lent-and-back records m r {RECORDS_LEFT} {BUFFERS_LEFT} out made is) len₂ len₃ len₄)')
 
 
-def table_walk():
-    c = table_enters()
-    table_lends(c)
-    table_keys(c)
-    table_back(c)
-    table_leaves(c)
+def lend_walk():
+    c = lend_enters()
+    lend_takes_out(c)
+    lend_places(c)
+    lend_lends(c)
+    lend_keys(c)
+    lend_back(c)
+    lend_leaves(c)
     return c.text()
 
 
@@ -543,45 +562,46 @@ def key_values():
     return {
         'key-lifetimes': tuple_of(['κ₀', 'ν ∷ []', 'κ₂', 'κ₃', 'κ₄']),
         'key-shares': tuple_of(['q₀', 'fullShare', 'q₂', 'q₃', 'q₄']),
-        'key-args': tuple_of(['x₀', 'lent-as l δ', 'x₂', 'x₃', 'x₄', 'stroke']),
-        'key-values': tuple_of(['s₀ ∷ []', 'sliceVal (l, 0) (length processes) ∷ []', 's₂ ∷ []', 's₃ ∷ []', 's₄ ∷ []', 'v-stroke ∷ []']),
+        'key-args': tuple_of(['x₀', 'lent-as records l δ', 'x₂', 'x₃', 'x₄', 'stroke']),
+        'key-values': tuple_of(['s₀ ∷ []', 'sliceVal (l, 0) (length records) ∷ []', 's₂ ∷ []', 's₃ ∷ []', 's₄ ∷ []', 'v-stroke ∷ []']),
         'key-given': items(ON_GIVEN),
-        'asks': key_asked(),
-        'keyed': TABLE_KEYED,
+        'key-asks': handed_over(ON_NAMES[:5], ON_NAMES[5:] + [OWN_STROKE]),
     }
 
 
-def table_closing(callees, params):
-    tells = ['shr-slice-tells (named 0) (κs .0) u8', 'array-tells R vals (LL.tells T.the-type T′.the-laws) 16'] + [f'mut-slice-tells (named {LIFETIME[k]}) ({part("κs", LIFETIME[k])}) u32' for k in [2, 3, 4]] + [KEY_TELLS]
-    table = f' ({part("a", 1)}) (only (array-vals vals ({part("a", 1)}))) ({part("are", 1)})'
-    return closing('key_on_table', callees, 4, params, ['slice-vals', 'array-vals vals'] + ['slice-vals'] * 3 + [KEY_VALS], tells, entered(callees, OWN_SLICES, table), False)
+def lend_closing(callees, params):
+    tells = ['shr-slice-tells (named 0) (κs .0) u8', 'LL.tells D.the-type D′.the-laws'] + [f'mut-slice-tells (named {LIFETIME[k]}) ({part("κs", LIFETIME[k])}) u32' for k in [2, 3, 4]] + [STROKE_TELLS]
+    return closing('lend_records', callees, 4, params, ['slice-vals', 'LL.vals D.the-type D′.the-laws'] + ['slice-vals'] * 3 + [STROKE_VALS], tells, entered(callees, OWN_SLICES, ' ' + handed_struct('D', 1)), False)
 
 
-def key_on_table():
-    callees = ['key', 'after_of']
-    params = [('seen', 0, 'u8'), ('plain', 'RA')] + [('given', LIFETIME[k], 'u32') for k in [2, 3, 4]] + [KEY_PARAM]
-    write('key_on_table', callees, {
+def lend_records():
+    callees = ['records_of', 'key', 'with_records']
+    params = [('seen', 0, 'u8'), ('plain', 'D.the-row')] + [('given', LIFETIME[k], 'u32') for k in [2, 3, 4]] + [STROKE_PARAM]
+    write('lend_records', callees, {
         **key_values(),
         'stayed': stayed(params),
         'contracts': '\n'.join(contract(x) for x in callees),
-        'after-is': said('after_of', 'after-is', '(t : List Process) (o : Outcome) (r : After)', 'tt', '(t, (o, tt))', 'r', '((r .processes ≡ t) × (r .outcome ≡ o))'),
+        'records-are': said('records_of', 'records-are', '(bench : Bench) (r : List Process)', 'tt', '(bench, tt)', 'r', '(r ≡ bench .records)'),
+        'given-back': said('with_records', 'given-back', '(bench : Bench) (t : List Process) (o : Outcome) (r : Pressed)', 'tt', '(bench, (t, (o, tt)))', 'r', '((r .bench .records ≡ t) × (r .outcome ≡ o))'),
         'binders': binders(OWN_SLICES),
-        'key': KEY_BINDERS,
-        'frame': frame_of(OWN_SLICES, True),
-        'after': ' '.join(TABLE_AFTER),
+        'stroke': STROKE_BINDERS,
+        'frame': frame_of(OWN_SLICES, ['bench', 'v-bench', 'Bench']),
+        'after': ' '.join(LEND_AFTER),
         'left': items(ON_LEFT),
-        'lasts': tuple_of(['tt', 'tt'] + TABLE_AFTER + ['tt']),
-        'lengths': tuple_of(['tt', 'tt', 'len₂', 'len₃', 'len₄'] + ['tt']),
-        'exit': table_exit(),
+        'lasts': tuple_of(['tt', 'tt'] + LEND_AFTER + ['tt']),
+        'lengths': tuple_of(['tt', 'tt', 'len₂', 'len₃', 'len₄', 'tt']),
+        'exit': lend_exit(),
+        'own-bench': OWN_BENCH,
+        'own-outcome': 'owned ! O.the-row (Is O.the-row) (LE.makes O.the-type O′.the-plain 𝓤 H A) o _ ot',
         'own-table': own_table('u', 'ut'),
         'known': ' '.join(known(x, 'C') for x in callees),
         'room-types': room_types(OWN_SLICES),
         'lifetimes': tuple_of([K[k] for k in OWN_SLICES]),
         'shares': tuple_of([Q[k] for k in OWN_SLICES]),
-        'passed': items([S[0], 'v'] + [S[k] for k in [2, 3, 4]] + ['v-stroke']),
+        'passed': items([S[0], 'v-bench'] + [S[k] for k in [2, 3, 4]] + ['v-stroke']),
         'rooms': ' '.join(ROOMS[k] for k in OWN_SLICES),
         'tokens': tokens_of(OWN_SLICES),
-        'rows': items([slice_type(0, 0), 'RA'] + [slice_type(k, LIFETIME[k]) for k in [2, 3, 4]] + ['S.the-row']),
-        'walk': table_walk(),
-        'closing': table_closing(callees, params),
+        'rows': items([slice_type(0, 0), 'D.the-row'] + [slice_type(k, LIFETIME[k]) for k in [2, 3, 4]] + ['S.the-row']),
+        'walk': lend_walk(),
+        'closing': lend_closing(callees, params),
     })

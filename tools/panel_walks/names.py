@@ -1,8 +1,9 @@
-"""The names of the crate's functions in the proofs, and what plain values own and are."""
+"""The names of the functions in the proofs, and what plain values own and are."""
 
-CRATE = 'panel'
 SIZE = 44  # bytes of a record, as `rt mir panel` prints them: (mul unsigned) .. (int 64 44); also in proofs/Laying.antt
 
+# the crate in which a function stands, where it is not `panel`
+CRATE = {'lend_records': 'bench_panel', 'records_of': 'bench_panel', 'with_records': 'bench_panel'}
 # the module of the source in which a function stands, where it is not the root
 MODULE = {'take': 'records.', 'give': 'records.', 'held': 'records.', 'empty': 'records.', 'record_at': 'records.', 'with_record': 'records.', 'press': 'press.'}
 # how the proofs call a callee's contract, and the hypothesis that it is met
@@ -17,7 +18,8 @@ CONTRACTS = {
     'with_record': ('WithRecord', 'known-with-record'),
     'key': ('OneKey', 'known-key'),
     'table_of': ('TableOf', 'known-table-of'),
-    'after_of': ('AfterOf', 'known-after-of'),
+    'records_of': ('RecordsOf', 'known-records-of'),
+    'with_records': ('WithRecords', 'known-with-records'),
 }
 
 
@@ -25,8 +27,12 @@ def dashed(name):
     return name.replace('_', '-')
 
 
+def crate_of(name):
+    return CRATE.get(name, 'panel')
+
+
 def symbol(name):
-    return f'#{CRATE}·' + dashed(MODULE.get(name, '').replace('.', '·') + name)
+    return '#' + dashed(f'{crate_of(name)}·' + MODULE.get(name, '').replace('.', '·') + name)
 
 
 # what a plain value owns is made from nothing, whenever it is asked for

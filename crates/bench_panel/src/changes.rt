@@ -6,6 +6,13 @@ use lines::put_name;
 use lines::put_number;
 use machine::Process;
 
+// A key's byte, and the bench before it and after it.
+pub struct Change {
+    pub byte: u8,
+    pub before: Bench,
+    pub after: Bench,
+}
+
 fn put_records(out: &mut [u8], at: usize, before: [Process; 16], after: [Process; 16]) -> usize {
     let mut next = at;
     let mut q = 0;
@@ -106,18 +113,18 @@ fn row_of(processes: [Process; 16], byte: u8) -> u32 {
 pub fn put_changes(
     out: &mut [u8],
     at: usize,
-    byte: u8,
-    before: Bench,
-    after: Bench,
+    change: Change,
     log: &[u32],
     answers: &[u32],
 ) -> usize {
-    let processes = before.processes;
-    let processes_now = after.processes;
+    let before = change.before;
+    let after = change.after;
+    let records = before.records;
+    let records_now = after.records;
     let words = before.words;
     let words_now = after.words;
-    let k = row_of(processes, byte);
-    let mut next = put_records(out, at, processes, processes_now);
+    let k = row_of(records, change.byte);
+    let mut next = put_records(out, at, records, records_now);
     next = put_changed_words(out, next, words, words_now);
     next = put_logged(out, next, log, before.log, after.log, k);
     next = put_answered(out, next, answers, before.answers, after.answers);

@@ -1,12 +1,13 @@
 // The bench panel: the argument names a run file, keys come in on standard input, one a line, and what each key changed
 // goes out as lines of text. docs/PANEL.md has the lines.
 //
-// A key is carried out by `panel::key_on_table`, which is proved against the machine's own step. Nothing is stepped here;
-// what changed is read off the bench before the key and the bench after it.
+// The records stand in a list of the program's own, and are lent to `panel::key` for one byte, which is proved against the
+// machine's own step. Nothing is stepped here; what changed is read off the bench before the key and the bench after it.
 mod changes;
 mod record;
 mod typed;
 
+use changes::Change;
 use changes::put_changes;
 use lines::put;
 use lines::put_name;
@@ -20,11 +21,13 @@ use runfile::Room;
 use typed::Entry;
 ghost use Rattle.runfile.specs.Lawful.{Lawful};
 ghost use Rattle.panel.specs.Press.{ample};
+ghost use Rattle.panel.specs.Promises.{Keyed};
+ghost use mathlib.Core.Path.{_≡_};
 
 // The bench between two keys: the records, the words, the position of the next key, and how many rows stand in the log
 // and in the answers. The rows themselves stand in two buffers that are lent.
 pub struct Bench {
-    pub processes: [Process; 16],
+    pub records: [Process; 16],
     pub words: [u32; 16],
     pub position: usize,
     pub log: usize,
@@ -71,9 +74,51 @@ fn put_key(out: &mut [u8], position: usize, byte: u8) -> usize {
     put(out, next, b'\n')
 }
 
+// The bench's records, by a function of its own: in a proof by hand, as that of `lend_records`, a field that is an array of
+// structs cannot be read.
+fn records_of(bench: Bench) -> [Process; 16]
+    ensures { λ r. ⌜ r ≡ bench .records ⌝ }
+{
+    let records = bench.records;
+    records
+}
+
+// Likewise a struct that holds such a field cannot be built there. This is the bench with these records.
+fn with_records(bench: Bench, records: [Process; 16], outcome: Outcome) -> Pressed
+    ensures { λ r. ⌜ (r .bench .records ≡ records) × (r .outcome ≡ outcome) ⌝ }
+{
+    let words = bench.words;
+    let bench_now = Bench {
+        records,
+        words,
+        position: bench.position,
+        log: bench.log,
+        answers: bench.answers,
+    };
+    Pressed {
+        bench: bench_now,
+        outcome,
+    }
+}
+
+// Lends the bench's own list of records to the panel for one key.
+fn lend_records(
+    file: &[u8],
+    bench: Bench,
+    words: &mut [u32],
+    log: &mut [u32],
+    answers: &mut [u32],
+    key: Stroke,
+) -> Pressed
+    ensures { λ r. ⌜ Keyed (now (file .entry)) (bench .records) (now (words .entry)) (now (log .entry)) (now (answers .entry)) key (r .outcome) (r .bench .records) (now (words .exit)) (now (log .exit)) (now (answers .exit)) ⌝ }
+{
+    let mut records = records_of(bench);
+    let outcome = panel::key(file, &mut records, words, log, answers, key);
+    with_records(bench, records, outcome)
+}
+
 // Carries out a key, at the next position. Where it is refused the bench stays as it is.
 fn carry_out(file: &[u8], bench: Bench, log: &mut [u32], answers: &mut [u32], byte: u8) -> Pressed {
-    let processes = bench.processes;
     let mut words = bench.words;
     let position = bench.position;
     let key = Stroke {
@@ -82,18 +127,19 @@ fn carry_out(file: &[u8], bench: Bench, log: &mut [u32], answers: &mut [u32], by
         log: bench.log,
         answers: bench.answers,
     };
-    let after = panel::key_on_table(file, processes, &mut words, log, answers, key);
-    let outcome = after.outcome;
+    let pressed = lend_records(file, bench, &mut words, log, answers, key);
+    let outcome = pressed.outcome;
     match outcome {
         Outcome::Refused(_, _) => Pressed { bench, outcome },
         Outcome::Went {
             log: log_now,
             answers: answers_now,
         } => {
-            let processes_now = after.processes;
+            let left = pressed.bench;
+            let records = records_of(left);
             let later = position + 1;
             let bench_now = Bench {
-                processes: processes_now,
+                records,
                 words,
                 position: later,
                 log: log_now,
@@ -111,19 +157,14 @@ fn carry_out(file: &[u8], bench: Bench, log: &mut [u32], answers: &mut [u32], by
 fn put_outcome(
     out: &mut [u8],
     at: usize,
-    byte: u8,
-    before: Bench,
-    pressed: Pressed,
+    outcome: Outcome,
+    change: Change,
     log: &[u32],
     answers: &[u32],
 ) -> usize {
-    let outcome = pressed.outcome;
     match outcome {
         Outcome::Refused(why, place) => lines::put_refusal(out, at, panel::why_number(why), place),
-        Outcome::Went { log: _, answers: _ } => {
-            let after = pressed.bench;
-            put_changes(out, at, byte, before, after, log, answers)
-        }
+        Outcome::Went { log: _, answers: _ } => put_changes(out, at, change, log, answers),
     }
 }
 
@@ -138,10 +179,16 @@ fn press(
 ) -> Bench {
     let pressed = carry_out(file, bench, log, answers, byte);
     let next = put_key(out, bench.position, byte);
-    let end = put_outcome(out, next, byte, bench, pressed, log, answers);
+    let outcome = pressed.outcome;
+    let after = pressed.bench;
+    let change = Change {
+        byte,
+        before: bench,
+        after,
+    };
+    let end = put_outcome(out, next, outcome, change, log, answers);
     lines::write_text(out, end);
-    let bench_now = pressed.bench;
-    bench_now
+    after
 }
 
 // Does what a line of standard input asks for.
@@ -198,7 +245,7 @@ fn start(file: &[u8], header: Header, words: [u32; 16]) {
     let mut answers = [0u32; 5120];
     let idle = machine::fresh();
     let bench = Bench {
-        processes: [idle; 16],
+        records: [idle; 16],
         words,
         position: 0,
         log: 0,

@@ -1,6 +1,6 @@
--- What the callees of `key` and of `key_on_table` say comes to what those promise: the only steps of the walks that are about the specification.
+-- What the callees of `key` say comes to what it promises: the only step of its walk that is about the specification.
 use mathlib.Core.Path.{_≡_, _∙_, ap, ap₂, subst}
-use Prim.Native.Nat.{ℕ, _≤_, min}
+use Prim.Native.Nat.{ℕ, min}
 use mathlib.Core.List.{List}
 use lib.ListN.{length}
 use Rattle.machine.specs.declared.Process.{Process}
@@ -32,9 +32,6 @@ table-of n processes = record { processes = processes; held = n }
 pub same-table : (t : Table) (n : ℕ) (processes : List Process) → (t .processes ≡ processes) × (t .held ≡ n) → t ≡ table-of n processes
 same-table t n processes e = ap₂ (λ (ps : List Process) (m : ℕ). table-of m ps) (e .0) (e .1)
 
-pub small-table : (t : Table) (n : ℕ) → t .held ≡ n → n ≤ 16 → t .held ≤ 16
-small-table t n e small = rw e small
-
 module _ (file : List ℕ) (records : List Process) (words log answers : List ℕ) (key : Stroke) where
   -- over a table that `take` has filled, of which the first n are laid back
   over : (n : ℕ) → n ≡ min (length records) 16 → (after : After) (records′ : List Process) (words′ log′ answers′ : List ℕ)
@@ -52,14 +49,3 @@ module _ (file : List ℕ) (records : List Process) (words log answers : List �
   joined n u t after records′ words′ log′ answers′ n-is u-is t-is l =
       over n n-is after records′ words′ log′ answers′
       (subst (λ (t : Table). PressedOn file t words log answers key after words′ log′ answers′) (t-is ∙ ap (table-of n) u-is) l)
-
--- the table and the outcome, put into one struct
-pub joined-table : (p : Pressed) (r : Outcome) (processes : List Process) (words log answers : List ℕ) (after : After) → Leaves p r processes words log answers → (after .processes ≡ processes) × (after .outcome ≡ r)
-    → Leaves p (after .outcome) (after .processes) words log answers
-joined-table p r processes words log answers after l e = record {
-  result = e .1 ∙ l .result;
-  processes-are = e .0 ∙ l .processes-are;
-  words-are = l .words-are;
-  log-is = l .log-is;
-  answers-are = l .answers-are;
-}

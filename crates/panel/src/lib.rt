@@ -87,12 +87,6 @@ fn table_of(processes: [Process; 16], held: usize) -> Table
     Table { processes, held }
 }
 
-fn after_of(processes: [Process; 16], outcome: Outcome) -> After
-    ensures { λ r. ⌜ (r .processes ≡ processes) × (r .outcome ≡ outcome) ⌝ }
-{
-    After { processes, outcome }
-}
-
 // One key over the lent records: of more than sixteen only the first sixteen are looked at.
 pub fn key(
     file: &[u8],
@@ -111,20 +105,4 @@ pub fn key(
     let left = processes_of(after);
     give(records, n, left);
     after.outcome
-}
-
-// A table of the caller's own, by value, is lent to `key` and comes back: whoever calls this lends no records.
-pub fn key_on_table(
-    file: &[u8],
-    processes: [Process; 16],
-    words: &mut [u32],
-    log: &mut [u32],
-    answers: &mut [u32],
-    pressed: Stroke,
-) -> After
-    ensures { λ r. ⌜ Keyed (now (file .entry)) processes (now (words .entry)) (now (log .entry)) (now (answers .entry)) pressed (r .outcome) (r .processes) (now (words .exit)) (now (log .exit)) (now (answers .exit)) ⌝ }
-{
-    let mut records = processes;
-    let outcome = key(file, &mut records, words, log, answers, pressed);
-    after_of(records, outcome)
 }

@@ -8,7 +8,6 @@ use super::judge::verdict_of;
 use engine::Part;
 use engine::Standing;
 use runfile::Room;
-ghost use Prim.Native.Nat.{_≤_};
 ghost use Rattle.panel.specs.Promises.{PressedOn};
 
 pub fn press(
@@ -19,7 +18,6 @@ pub fn press(
     answers: &mut [u32],
     key: Stroke,
 ) -> After
-    requires { ⌜ table .held ≤ 16 ⌝ }
     ensures { λ r. ⌜ PressedOn (now (file .entry)) table (now (words .entry)) (now (log .entry)) (now (answers .entry)) key r (now (words .exit)) (now (log .exit)) (now (answers .exit)) ⌝ }
 {
     let room = Room {

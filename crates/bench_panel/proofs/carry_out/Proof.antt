@@ -8,9 +8,9 @@ use Rattle.bench_panel.proofs.carry_out.Tie as tie
 
 add-later : tie.Need-add-later
 add-later c =
-    let went = c .before .before in
+    let went = c .before .before .before in
     let pressed = went .before .before .before .before .before .before .before in
-    let h = early _ _ _ _ _ _ _ _ (sym (pressed .key-on-table .ensures .result) ∙ went .outcome .given .1) in
+    let h = early _ _ _ _ _ _ _ _ (sym (pressed .lend-records .ensures .result) ∙ went .outcome .given .1) in
     record { fits = omega arith }
 
 pub carry-out-spec : {M : Type 1} → statement M
@@ -21,6 +21,7 @@ carry-out-spec =
     (λ c κs. search needs)
     (λ c. search needs)
     (λ c. search needs)
+    (λ c κs. search needs)
     add-later
     (λ c. search needs)
     (λ c. search needs)

@@ -63,7 +63,7 @@ use Rattle.panel.proofs.Stroke as S
 use Rattle.panel.proofs.Stroke.Laws as S′
 use Rattle.panel.proofs.Table as B
 use Rattle.panel.proofs.Table.Laws as B′
-use Rattle.panel.proofs.Joined.{small-table, same-table, joined}
+use Rattle.panel.proofs.Joined.{same-table, joined}
 use Rattle.panel.proofs.records.held as held
 use Rattle.panel.proofs.records.held.Symbol as held-def
 use Rattle.panel.proofs.records.held.Symbol.{name as #panel·records·held}
@@ -233,8 +233,8 @@ module _ {M : Type 1} (𝓤 : URA M) (H : Heap 𝓤) (A : Atoms 𝓤) (W : Given
   abbrev to-press : Table → Val → Press 𝓤 H A mem run .Ghost
   to-press t w = (((κ₀, (κ₂, (κ₃, (κ₄, tt)))), (q₀, (q₂, (q₃, (q₄, tt)))), tt, press-args t, (s₀ ∷ [], (w ∷ [], (s₂ ∷ [], (s₃ ∷ [], (s₄ ∷ [], (v-stroke ∷ [], tt))))))), tt)
 
-  goes-press : (t : Table) (w : Val) → Is B.the-row t (w ∷ []) → t .held ≤ 16 → ent 𝓤 (⋆ 𝓤 H A (‵ (flft κ₀ q₀) ∷ ‵ (flft κ₂ q₂) ∷ ‵ (flft κ₃ q₃) ∷ ‵ (flft κ₄ q₄) ∷ ‵ (ShrSlice (named 0) κ₀ u8 .own x₀ (s₀ ∷ [])) ∷ ‵ (MutSlice (named 2) κ₂ u32 .own x₂ (s₂ ∷ [])) ∷ ‵ (MutSlice (named 3) κ₃ u32 .own x₃ (s₃ ∷ [])) ∷ ‵ (MutSlice (named 4) κ₄ u32 .own x₄ (s₄ ∷ [])) ∷ [])) (Press 𝓤 H A mem run .pre (to-press t w))
-  goes-press t w tt′ small = qed W (‵ (flft κ₀ q₀) ∷ ‵ (flft κ₂ q₂) ∷ ‵ (flft κ₃ q₃) ∷ ‵ (flft κ₄ q₄) ∷ ‵ (ShrSlice (named 0) κ₀ u8 .own x₀ (s₀ ∷ [])) ∷ ‵ (MutSlice (named 2) κ₂ u32 .own x₂ (s₂ ∷ [])) ∷ ‵ (MutSlice (named 3) κ₃ u32 .own x₃ (s₃ ∷ [])) ∷ ‵ (MutSlice (named 4) κ₄ u32 .own x₄ (s₄ ∷ [])) ∷ []) ∵ says ! small $ nothing ! $ move ! (4 ∷ 0 ∷ []) $ join ! $ move ! (3 ∷ 0 ∷ []) $ join ! $ move ! (2 ∷ 0 ∷ []) $ join ! $ move ! (1 ∷ 0 ∷ []) $ join ! $ frame ! $ nothing ! $ owned ! S.the-row (Is S.the-row) (LL.makes S.the-type S′.the-plain 𝓤 H A) stroke _ stroke-is $ fjoin ! $ move ! (4 ∷ 0 ∷ []) $ fjoin ! $ move ! (3 ∷ 0 ∷ []) $ fjoin ! $ move ! (2 ∷ 0 ∷ []) $ fjoin ! $ owned ! B.the-row (Is B.the-row) (LL.makes B.the-type B′.the-plain 𝓤 H A) t _ tt′ $ fjoin ! $ move ! (1 ∷ 0 ∷ []) $ fjoin ! $ done !
+  goes-press : (t : Table) (w : Val) → Is B.the-row t (w ∷ []) → ent 𝓤 (⋆ 𝓤 H A (‵ (flft κ₀ q₀) ∷ ‵ (flft κ₂ q₂) ∷ ‵ (flft κ₃ q₃) ∷ ‵ (flft κ₄ q₄) ∷ ‵ (ShrSlice (named 0) κ₀ u8 .own x₀ (s₀ ∷ [])) ∷ ‵ (MutSlice (named 2) κ₂ u32 .own x₂ (s₂ ∷ [])) ∷ ‵ (MutSlice (named 3) κ₃ u32 .own x₃ (s₃ ∷ [])) ∷ ‵ (MutSlice (named 4) κ₄ u32 .own x₄ (s₄ ∷ [])) ∷ [])) (Press 𝓤 H A mem run .pre (to-press t w))
+  goes-press t w tt′ = qed W (‵ (flft κ₀ q₀) ∷ ‵ (flft κ₂ q₂) ∷ ‵ (flft κ₃ q₃) ∷ ‵ (flft κ₄ q₄) ∷ ‵ (ShrSlice (named 0) κ₀ u8 .own x₀ (s₀ ∷ [])) ∷ ‵ (MutSlice (named 2) κ₂ u32 .own x₂ (s₂ ∷ [])) ∷ ‵ (MutSlice (named 3) κ₃ u32 .own x₃ (s₃ ∷ [])) ∷ ‵ (MutSlice (named 4) κ₄ u32 .own x₄ (s₄ ∷ [])) ∷ []) ∵ nothing ! $ move ! (4 ∷ 0 ∷ []) $ join ! $ move ! (3 ∷ 0 ∷ []) $ join ! $ move ! (2 ∷ 0 ∷ []) $ join ! $ move ! (1 ∷ 0 ∷ []) $ join ! $ nothing ! $ owned ! S.the-row (Is S.the-row) (LL.makes S.the-type S′.the-plain 𝓤 H A) stroke _ stroke-is $ fjoin ! $ move ! (5 ∷ 0 ∷ []) $ fjoin ! $ move ! (4 ∷ 0 ∷ []) $ fjoin ! $ move ! (3 ∷ 0 ∷ []) $ fjoin ! $ owned ! B.the-row (Is B.the-row) (LL.makes B.the-type B′.the-plain 𝓤 H A) t _ tt′ $ fjoin ! $ move ! (2 ∷ 0 ∷ []) $ fjoin ! $ move ! (1 ∷ 0 ∷ []) $ join ! $ frame ! $ done !
 
   abbrev to-processes-of : After → ProcessesOf 𝓤 H A mem run .Ghost
   to-processes-of m = ((tt, tt, tt, (m, tt), (LL.vals N.the-type N′.the-laws m, tt)), tt)
@@ -292,7 +292,7 @@ module _ {M : Type 1} (𝓤 : URA M) (H : Heap 𝓤) (A : Atoms 𝓤) (W : Given
         assigns ! (agg ! (and-then ! (load ! (from ! (stop !)) (look ! 23 refl)) (and-then ! (load ! (from ! (fld ! refl (stop !))) (look-in ! 49 (sub ! 1 refl (whole !)))) (no-more !)))) (from ! (stop !)) (init ! 21 refl (tt, (tt, (record { fits = room₃ .0 }, tt)))) $
         assigns ! (addr ! (from ! (fld ! refl (hop ! (look-in ! 47 (sub ! 0 refl (whole !))) (stop !))))) (from ! (stop !)) (init ! 19 refl (tt, tt)) $
         assigns ! (agg ! (and-then ! (load ! (from ! (stop !)) (look ! 19 refl)) (and-then ! (load ! (from ! (fld ! refl (stop !))) (look-in ! 47 (sub ! 1 refl (whole !)))) (no-more !)))) (from ! (stop !)) (init ! 17 refl (tt, (tt, (record { fits = room₄ .0 }, tt)))) $
-        move ! (9 ∷ 8 ∷ []) $ join ! $ move ! (9 ∷ 0 ∷ []) $ join ! $ move ! (3 ∷ 0 ∷ []) $ join ! $ move ! (4 ∷ 0 ∷ []) $ join ! $ move ! (4 ∷ 0 ∷ []) $ join ! $ move ! (4 ∷ 0 ∷ []) $ join ! $ move ! (4 ∷ 0 ∷ []) $ join ! $ use1 W (raw (Press 𝓤 H A mem run .pre (to-press t w₃))) (goes-press t w₃ tt′ (small-table t n (tabled .1) (count .1))) $
+        move ! (9 ∷ 8 ∷ []) $ join ! $ move ! (9 ∷ 0 ∷ []) $ join ! $ move ! (3 ∷ 0 ∷ []) $ join ! $ move ! (4 ∷ 0 ∷ []) $ join ! $ move ! (4 ∷ 0 ∷ []) $ join ! $ move ! (4 ∷ 0 ∷ []) $ join ! $ move ! (4 ∷ 0 ∷ []) $ join ! $ use1 W (raw (Press 𝓤 H A mem run .pre (to-press t w₃))) (goes-press t w₃ tt′) $
         calls-at ! fm (Press 𝓤 H A mem run) known-press (to-press t w₃) (and-then ! (load ! (from ! (stop !)) (look ! 48 refl)) (and-then ! (load ! (from ! (stop !)) (look ! 32 refl)) (and-then ! (load ! (from ! (stop !)) (look ! 18 refl)) (and-then ! (load ! (from ! (stop !)) (look ! 14 refl)) (and-then ! (load ! (from ! (stop !)) (look ! 10 refl)) (and-then ! (load ! (from ! (stop !)) (look ! 38 refl)) (no-more !))))))) (λ w₄.
         use1 W (later (some (λ (m : After). ((‵ (flft κ₀ q₀) ⊛ ‵ (flft κ₂ q₂) ⊛ ‵ (flft κ₃ q₃) ⊛ ‵ (flft κ₄ q₄) ⊛ ‵ ftrue) ⊛ ‵ (N.the-row .own m (w₄ ∷ []))) ⊛ raw (ensured 𝓤 H A press.ended (press.clauses 𝓤 H A mem run) (κ₀, (κ₂, (κ₃, (κ₄, tt)))) (press-args t) tt m)))) (id⊢ 𝓤 _) $ await ! tt $ pick ! (λ m.
         split ! $ move ! (1 ∷ []) $ use1 W (some (λ (vs : Unit {0} × (Unit {0} × (List ℕ × (List ℕ × (List ℕ × (Unit {0} × (Unit {0}))))))). ‵ (lasts press.ended (κ₀, (κ₂, (κ₃, (κ₄, tt)))) (press-args t) vs) ⊛ raw (fact 𝓤 (PressSays t m (vs .1 .1 .0) (vs .1 .1 .1 .0) (vs .1 .1 .1 .1 .0))))) (id⊢ 𝓤 _) $ pick ! (λ vs.
