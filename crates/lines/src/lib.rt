@@ -20,8 +20,8 @@ fn wide(n: u32) -> u64 {
 pub fn put_word(out: &mut [u8], at: usize, number: usize, word: u32) -> usize {
     let mut next = put_name(out, at, b"word");
     next = put_number(out, next, number as u64);
-    next = put_number(out, next, wide(word % 65536));
-    next = put_number(out, next, wide(word / 65536));
+    next = put_number(out, next, wide(word::value_of(word)));
+    next = put_number(out, next, wide(word::flips_of(word)));
     put(out, next, b'\n')
 }
 
@@ -91,10 +91,10 @@ pub fn put_refusal(out: &mut [u8], at: usize, number: u32, place: usize) -> usiz
     put(out, next, b'\n')
 }
 
-// Puts the lines of what a run came to, from its outcome and from what stands in the lent buffers after it.
+// Puts the lines of what a run came to, from its outcome and from what stands in the lent buffers after it. They begin
+// the text.
 pub fn put_outcome(
     out: &mut [u8],
-    at: usize,
     file: &[u8],
     outcome: Outcome,
     words: &[u32],
@@ -102,13 +102,13 @@ pub fn put_outcome(
     answers: &[u32],
 ) -> usize {
     match outcome {
-        Outcome::Refused(why, place) => put_refusal(out, at, runfile::refusal_number(why), place),
+        Outcome::Refused(why, place) => put_refusal(out, 0, runfile::refusal_number(why), place),
         Outcome::Ran {
             log: log_rows,
             answers: answer_rows,
         } => {
             let header = runfile::header_or_zeros(file);
-            let mut next = put_header(out, at, header);
+            let mut next = put_header(out, 0, header);
             next = put_words(out, next, words, runfile::index8(header.words));
             next = put_rows(out, next, b"log", log, log_rows);
             put_rows(out, next, b"answer", answers, answer_rows)

@@ -38,6 +38,9 @@ ghost use Rattle.runfile.specs.Layout.{lengthGiven};
 ghost use Rattle.runfile.specs.Refusals.{outOfRange, firstOf, found, noRoom, countChecks, headChecks, bodyChecks, roomChecks, fileRefusal};
 ghost use Rattle.runfile.specs.Promises.{Decides, Numbers};
 
+// One byte more than the longest file has. So many bytes of any file decide what it comes to (specs/Enough).
+pub const ENOUGH_BYTES: usize = 5196;
+
 // What the first eleven bytes give, after the mark.
 pub struct Header {
     pub version: u16,

@@ -74,7 +74,7 @@ fn put_record(
     fill(log, 274726912);
     fill(answers, 2768240640);
     let outcome = run::run(file, words, log, answers);
-    let next = lines::put_outcome(out, 0, file, outcome, words, log, answers);
+    let next = lines::put_outcome(out, file, outcome, words, log, answers);
     put_sum(out, next, words, log, answers)
 }
 

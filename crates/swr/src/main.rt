@@ -7,13 +7,13 @@ fn put_run(out: &mut [u8], file: &[u8]) -> usize {
     let mut log = [0u32; 5120];
     let mut answers = [0u32; 5120];
     let outcome = run::run(file, &mut words, &mut log, &mut answers);
-    lines::put_outcome(out, 0, file, outcome, &words, &log, &answers)
+    lines::put_outcome(out, file, outcome, &words, &log, &answers)
 }
 
 fn main() {
-    // The longest run file has 5,195 bytes. One byte more is room enough: a longer file is refused for its length or
-    // for what stands in its header, and the first 5,196 bytes decide which.
-    let mut file = [0u8; 5196];
+    // Room for one byte more than the longest run file has: a longer file is refused for its length or for what stands
+    // in its header, and so many bytes of it decide which.
+    let mut file = [0u8; runfile::ENOUGH_BYTES];
     let n = io::read_full(0, &mut file);
     // Room for every outcome. The longest lines: `run` 19 bytes; `word` 20, at most 16 times; `log` 24 and `answer` 27
     // (a position below 1,024, a process below 16, a row below 512, one digit, a value below 65,536), each at most

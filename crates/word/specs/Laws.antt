@@ -21,7 +21,7 @@ module _ (b : ℕ) where
   unfolding valueIn
   value-fits w = mod-lt w (pow-pos b)
 
-  -- "bit 16 + p is the flip bit of process p", counted in the whole word
+  -- the flip bit of process p is bit b + p, counted in the whole word
   pub bit-stands : (p w : ℕ) → bitIn b p w ≡ bitOf (b + p) w
   unfolding bitIn flipsIn
   bit-stands p w = bit-of-div p (w / 2 ^ b) ∙ ap (λ x. eqb (x % 2) 1) (shr-shr w b p) ∙ sym (bit-of-div (b + p) w)

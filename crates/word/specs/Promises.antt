@@ -3,12 +3,16 @@
 use Prim.Native.Nat.{ℕ, _^_, _<_}
 use mathlib.Core.Path.{_≡_, sym, _∙_, subst}
 use mathlib.Core.Bool.{Bool}
-use Rattle.word.specs.Word.{width, value, bit, swapped}
+use Rattle.word.specs.Word.{width, value, flips, bit, swapped}
 use Rattle.word.specs.Laws.{AfterSwap, after-swap, after-swap-one}
 
 -- `value_of(word)`
 abbrev pub Valued : (w r : ℕ) → Type 0
 Valued w r = r ≡ value w
+
+-- `flips_of(word)`
+abbrev pub HasFlips : (w r : ℕ) → Type 0
+HasFlips w r = r ≡ flips w
 
 -- `bit_of(process, word)`
 abbrev pub Flipped : (p w : ℕ) (r : Bool) → Type 0
@@ -20,6 +24,9 @@ Swapped p n w r = r ≡ swapped p n w
 
 pub valued-one : (w r q : ℕ) → Valued w r → Valued w q → r ≡ q
 valued-one w r q a b = a ∙ sym b
+
+pub has-flips-one : (w r q : ℕ) → HasFlips w r → HasFlips w q → r ≡ q
+has-flips-one w r q a b = a ∙ sym b
 
 pub flipped-one : (p w : ℕ) (r q : Bool) → Flipped p w r → Flipped p w q → r ≡ q
 flipped-one p w r q a b = a ∙ sym b

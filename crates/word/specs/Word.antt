@@ -1,4 +1,4 @@
--- A word: document 01, "The run file". A word is a number; layers above speak of it only through `value`, `bit` and `swapped`,
+-- A word: document 01, "The run file". A word is a number; layers above speak of it only through `value`, `flips`, `bit` and `swapped`,
 -- and use the laws of `Laws`. Everything is defined over the width of the value, and `width` alone says what it is.
 use Prim.Native.Nat.{ℕ, zero, suc, _+_, _*_, _-_, _/_, _%_, _^_}
 use mathlib.Core.Bool.{Bool}
@@ -35,6 +35,9 @@ swappedIn b p n w = turnOf p (flipsIn b w) * 2 ^ b + n
 -- the same at the width of today
 abbrev pub value : ℕ → ℕ
 value = valueIn width
+
+abbrev pub flips : ℕ → ℕ
+flips = flipsIn width
 
 abbrev pub bit : ℕ → ℕ → Bool
 bit = bitIn width

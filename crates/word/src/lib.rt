@@ -1,16 +1,23 @@
 // A word that survives a crash: a value in its low bits, and above it a flip bit for each process.
 ghost use Prim.Native.Nat.{_<_};
-ghost use Rattle.word.specs.Promises.{Valued, Flipped, Swapped};
+ghost use Rattle.word.specs.Promises.{Valued, HasFlips, Flipped, Swapped};
 
 // "A word's low 16 bits are its value": how many bits, and how many values they hold.
 const WIDTH: u32 = 16;
 
-const VALUES: u32 = 65536;
+const VALUES: u32 = 1 << WIDTH;
 
 pub fn value_of(word: u32) -> u32
     ensures { λ r. ⌜ Valued word r ⌝ }
 {
     word % VALUES
+}
+
+// The flip bits of all processes as one number.
+pub fn flips_of(word: u32) -> u32
+    ensures { λ r. ⌜ HasFlips word r ⌝ }
+{
+    word / VALUES
 }
 
 // The flip bit of a process.

@@ -1,4 +1,4 @@
--- `bit_of` meets its contract: bit 16 + p of the word (`bit-stands`), as a shift reads it (`bit-of-div`).
+-- `bit_of` meets its contract: bit `width` + p of the word (`bit-stands`), as a shift reads it (`bit-of-div`).
 use mathlib.Core.Path.{sym, _∙_}
 use Prim.Native.Nat.{_+_}
 use borrow.Author.Needs.{needs}

@@ -1,4 +1,4 @@
--- `swapped_of` meets its contract: the exclusive or turns bit 16 + p and no other (`put-in`), and what the value leaves of 2^32 has room for new.
+-- `swapped_of` meets its contract: the exclusive or turns bit `width` + p and no other (`put-in`), and what the value leaves of 2^32 has room for new.
 use Prim.Native.Nat.{ℕ, _+_, _*_, _-_, _%_, _^_, _<_}
 use mathlib.Core.Path.{_≡_, ap}
 use native.Mathlib.Omega.{arith}
@@ -12,7 +12,7 @@ use Rattle.word.proofs.swapped_of.Statement.{statement}
 use Rattle.word.proofs.swapped_of.Tie as tie
 
 -- the shift loses nothing
-own : (p : ℕ) → p < 16 → (1 * 2 ^ (width + p)) % 2 ^ 32 ≡ 2 ^ (width + p)
+own : (p : ℕ) → width + p < 32 → (1 * 2 ^ (width + p)) % 2 ^ 32 ≡ 2 ^ (width + p)
 own p h = rw (one-mul (2 ^ (width + p))) (mod-eq-of-lt (pow-lt {i = width + p} {j = 32} (omega arith)))
 
 -- a word of 32 bits, whatever bits are turned in it, has room for another value when its own is taken out
@@ -39,7 +39,7 @@ add-result c = record { fits = room (c .before .args .word) _ _ _ (omega arith) 
 
 returns : tie.Need-returns
 returns c = let a = c .before .args in
-    put-in width (a .process) (a .word) (a .new) _ (c .value-of .result) (ap (bitXor (a .word)) (own (a .process) (c .before .pre))) (c .value-of .ensures)
+    put-in width (a .process) (a .word) (a .new) _ (c .value-of .result) (ap (bitXor (a .word)) (own (a .process) (omega (arith, c .before .pre)))) (c .value-of .ensures)
 
 pub swapped-of-spec : {M : Type 1} → statement M
 swapped-of-spec =
