@@ -17,11 +17,9 @@ use panel::Outcome;
 use panel::Stroke;
 use runfile::Checked;
 use runfile::Header;
-use runfile::Room;
 use typed::Entry;
-ghost use Rattle.runfile.specs.Lawful.{Lawful};
-ghost use Rattle.panel.specs.Press.{ample};
-ghost use Rattle.panel.specs.Promises.{Keyed};
+ghost use Rattle.runfile.specs.Lawful.{Lawful, ample};
+ghost use Rattle.bench_panel.specs.Promises.{Lends};
 ghost use mathlib.Core.Path.{_≡_};
 
 // The bench between two keys: the records, the words, the position of the next key, and how many rows stand in the log
@@ -257,14 +255,9 @@ fn start(file: &[u8], header: Header, words: [u32; 16]) {
     take_lines(file, bench, &mut out, &mut log, &mut answers);
 }
 
-// Judges the file, with room for any run, as the panel does at each key.
+// Judges the file, as the panel does at each key.
 fn open(file: &[u8]) {
-    let room = Room {
-        words: 16,
-        log: 5120,
-        answers: 5120,
-    };
-    match runfile::check(file, room) {
+    match runfile::check_file(file) {
         Checked::Refused(why, place) => {
             let mut out = [0u8; 64];
             let end = lines::put_refusal(&mut out, 0, runfile::refusal_number(why), place);

@@ -16,8 +16,8 @@ use Rattle.runfile.specs.declared.Checked.{Checked}
 use Rattle.runfile.specs.declared.Checked.the-variants as checked
 use Rattle.runfile.specs.declared.Refusal.the-variants.{WordsRoom}
 use Rattle.runfile.specs.Operations.{tableOf}
-use Rattle.runfile.specs.Refusals.{refusalOf}
-use Rattle.runfile.specs.Lawful.{lawful}
+use Rattle.runfile.specs.Refusals.{fileRefusal}
+use Rattle.runfile.specs.Lawful.{lawful-file}
 use Rattle.machine.specs.declared.Process.{Process}
 use Rattle.rows.specs.Buffers.{rowsOf, flat, infront}
 use Rattle.machine.specs.Records.{nobody}
@@ -33,7 +33,7 @@ use Rattle.panel.specs.Fits.{not-fine, list-room}
 use Rattle.panel.specs.Longer.{grows}
 use Rattle.panel.specs.Laid.{blank, laid}
 use Rattle.panel.specs.Possible.{anyImpossible}
-use Rattle.panel.specs.Press.{Lent, lent, ample, sound, andThen, judged, judgedAs, verdictOf, stateOf, stepped, Pressed, pressedAs, pressed}
+use Rattle.panel.specs.Press.{Lent, lent, sound, andThen, judged, judgedAs, verdictOf, stateOf, stepped, Pressed, pressedAs, pressed}
 use Rattle.panel.specs.Key.{keyed}
 
 -- with the first n of the table laid back into the list
@@ -153,9 +153,9 @@ module _ (f : List ℕ) (records : List Process) (words log answers : List ℕ) 
   -- over the table and laid back, and over the list
   pub keyed-is : givenBack n records (pressed f table words log answers k) ≡ keyed f records words log answers k
   unfolding keyed pressed verdictOf
-  keyed-is = go (refusalOf f ample) refl
+  keyed-is = go (fileRefusal f) refl
     where
-      go : (c : Checked) → refusalOf f ample ≡ c → givenBack n records (pressedAs (judgedAs c f table room k) f in-table k) ≡ pressedAs (judgedAs c f whole room k) f lends k
+      go : (c : Checked) → fileRefusal f ≡ c → givenBack n records (pressedAs (judgedAs c f table room k) f in-table k) ≡ pressedAs (judgedAs c f whole room k) f lends k
       go (checked.Refused why place) q = alike (Not (Run why) place) (λ h e. absurd (not-fine e))
       go (checked.Accepted h) q =
-          alike (judged h f table room k) (λ g e. list-room h f table room k g e) ∙ ap (λ v. pressedAs v f lends k) (verdict-alike h (lawful f ample h q .head .processes))
+          alike (judged h f table room k) (λ g e. list-room h f table room k g e) ∙ ap (λ v. pressedAs v f lends k) (verdict-alike h (lawful-file f h q .head .processes))

@@ -7,7 +7,7 @@ use lib.ListN.{length, getD, take, drop}
 use Rattle.runfile.specs.declared.Header.{Header}
 use Rattle.runfile.specs.Layout.{rowsStart, strideOf}
 use Rattle.runfile.specs.Operations.{tableOf}
-use Rattle.runfile.specs.Lawful.{LawfulByte, lawful-byte}
+use Rattle.runfile.specs.Lawful.{LawfulByte, lawful-byte, ample}
 use Rattle.machine.specs.declared.Process.{Process}
 use Rattle.engine.specs.declared.Standing.{Standing}
 use Rattle.engine.specs.declared.Part.{Part}
@@ -23,7 +23,7 @@ use Rattle.panel.specs.declared.Outcome.{Outcome}
 use Rattle.panel.specs.declared.Outcome.the-variants.{Went, Refused}
 use Rattle.panel.specs.declared.Verdict.the-variants.{Fine, Not}
 use Rattle.panel.specs.declared.Why.{Why}
-use Rattle.panel.specs.Press.{Lent, ample, lent, verdictOf, Fit, Leaves, stateOf, stepped, carried, pressed}
+use Rattle.panel.specs.Press.{Lent, lent, verdictOf, Fit, Leaves, stateOf, stepped, carried, pressed}
 use Rattle.panel.specs.Fits.{each-possible, sane-of}
 
 module _ (h : Header) (f : List ℕ) (l : Lent) (k : Stroke) (ft : Fit h f (l .processes) (roomOf (l .words) (l .log) (l .answers)) k) where

@@ -14,8 +14,8 @@ use Rattle.runfile.specs.declared.Row.{Row}
 use Rattle.runfile.specs.declared.Checked.{Checked}
 use Rattle.runfile.specs.declared.Checked.the-variants as checked
 use Rattle.runfile.specs.Operations.{tableOf, first, count}
-use Rattle.runfile.specs.Refusals.{badByte, refusalOf}
-use Rattle.runfile.specs.Lawful.{lawful, neither}
+use Rattle.runfile.specs.Refusals.{badByte, fileRefusal}
+use Rattle.runfile.specs.Lawful.{lawful-file, neither}
 use Rattle.runfile.specs.Shares.{last-fits}
 use Rattle.machine.specs.declared.Process.{Process}
 use Rattle.machine.specs.declared.Opened.{Opened}
@@ -30,7 +30,7 @@ use Rattle.panel.specs.declared.Verdict.{Verdict}
 use Rattle.panel.specs.declared.Verdict.the-variants.{Fine, Not}
 use Rattle.panel.specs.declared.Why.{Why}
 use Rattle.panel.specs.Possible.{tooMany, notLast, openWhile, noneAt, noneLeft, misplaced, impossible, anyImpossible}
-use Rattle.panel.specs.Press.{ample, andThen, roomy, sound, judged, judgedAs, verdictOf, Fit}
+use Rattle.panel.specs.Press.{andThen, roomy, sound, judged, judgedAs, verdictOf, Fit}
 
 pub not-fine : {why : Why} {at : ℕ} {h : Header} → Not why at ≡ Fine h → ⊥
 not-fine e = let z : _≡_ {A = ℕ} 0 1 = cc in omega arith
@@ -76,11 +76,11 @@ list-room g f t room k h e = let u = unrefused g f t room k h e in subst (λ h. 
 
 module _ (f : List ℕ) (t : Table) (room : Room) (k : Stroke) (h : Header) (e : verdictOf f t room k ≡ Fine h) where
   -- the file is accepted
-  pub fine-file : (refusalOf f ample ≡ checked.Accepted h) × (h .processes ≤ t .held)
+  pub fine-file : (fileRefusal f ≡ checked.Accepted h) × (h .processes ≤ t .held)
   unfolding verdictOf
-  fine-file = go (refusalOf f ample) refl e
+  fine-file = go (fileRefusal f) refl e
     where
-      go : (c : Checked) → refusalOf f ample ≡ c → judgedAs c f t room k ≡ Fine h → (refusalOf f ample ≡ checked.Accepted h) × (h .processes ≤ t .held)
+      go : (c : Checked) → fileRefusal f ≡ c → judgedAs c f t room k ≡ Fine h → (fileRefusal f ≡ checked.Accepted h) × (h .processes ≤ t .held)
       go (checked.Refused why place) q e = absurd (not-fine e)
       go (checked.Accepted g) q e = (q ∙ ap checked.Accepted (unrefused g f t room k h e .0), list-room g f t room k h e)
 
@@ -90,7 +90,7 @@ module _ (f : List ℕ) (t : Table) (room : Room) (k : Stroke) (h : Header) (e :
       let accepted = fine-file .0 in
       let u = unrefused h f t room k h (subst (λ c. judgedAs c f t room k ≡ Fine h) accepted e) .1 in
       record {
-        lawful = lawful f ample h accepted;
+        lawful = lawful-file f h accepted;
         words-room = ltb-false (room .words) (h .words) (u .words);
         log-room = ltb-false (room .log) (k .log * 5 + 5) (u .log);
         answers-room = ltb-false (room .answers) (k .answers * 5 + 5) (u .answers);

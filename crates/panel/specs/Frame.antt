@@ -15,7 +15,7 @@ use Rattle.runfile.specs.declared.Row.{Row}
 use Rattle.runfile.specs.declared.Checked.the-variants as checked
 use Rattle.runfile.specs.Actions.{Action, step as steps, crash as crashes, wake as wakes, crashAll as crashesAll, none as idles, action, named}
 use Rattle.runfile.specs.Operations.{tableOf, rowNumbered, first, count}
-use Rattle.runfile.specs.Refusals.{badAction, badByte, refusalOf}
+use Rattle.runfile.specs.Refusals.{badAction, badByte, fileRefusal}
 use Rattle.rows.specs.declared.Entry.{Entry}
 use Rattle.rows.specs.Buffers.{rowsOf, flat, infront}
 use Rattle.rows.specs.BufferLaws.{beyond, flat-append, flat-rowsOf, length-flat, length-infront, length-rowsOf, rows-same}
@@ -36,7 +36,7 @@ use Rattle.panel.specs.declared.Verdict.{Verdict}
 use Rattle.panel.specs.declared.Verdict.the-variants.{Fine, Not}
 use Rattle.panel.specs.Longer.{grows}
 use Rattle.panel.specs.Fits.{fit, fine-file}
-use Rattle.panel.specs.Press.{Lent, lent, ample, verdictOf, stateOf, stepped, Pressed, carried, pressedAs, pressed, Fit}
+use Rattle.panel.specs.Press.{Lent, lent, verdictOf, stateOf, stepped, Pressed, carried, pressedAs, pressed, Fit}
 use Rattle.panel.specs.Key.{keyed}
 
 -- a word that the row is not on
@@ -199,7 +199,7 @@ module _ (h : Header) (f : List ℕ) (records : List Process) (words log answers
 -- refused: "nothing is changed"; or carried out, on a file that is accepted
 pub data Comes (f : List ℕ) (l : Lent) (k : Stroke) (p : Pressed) : Type 0 where
   refused : (why : Why) (place : ℕ) → p ≡ record { outcome = Refused why place; processes = l .processes; words = l .words; log = l .log; answers = l .answers } → Comes f l k p
-  went : (h : Header) → refusalOf f ample ≡ checked.Accepted h → (m a : ℕ) → p .outcome ≡ Went m a → Frame h f l k p → Comes f l k p
+  went : (h : Header) → fileRefusal f ≡ checked.Accepted h → (m a : ℕ) → p .outcome ≡ Went m a → Frame h f l k p → Comes f l k p
 
 -- whatever is lent, and whatever the key
 module _ (f : List ℕ) (records : List Process) (words log answers : List ℕ) (key : Stroke) where

@@ -9,7 +9,7 @@ use Rattle.runfile.specs.declared.Row.{Row}
 use Rattle.runfile.specs.Format.{headSize, wordSize, rowSize, newPlace}
 use Rattle.runfile.specs.Layout.{u16At, marked, headerIn, numberAt, rowAt}
 use Rattle.runfile.specs.Operations.{rowsFrom, tableOf, rowNumbered, first, count, names}
-use Rattle.runfile.specs.Refusals.{badField, sameFields, badByte, firstBadField, firstRow, firstLaterRow, firstByte, refusalOf}
+use Rattle.runfile.specs.Refusals.{badField, sameFields, badByte, firstBadField, firstRow, firstLaterRow, firstByte, fileRefusal}
 use Rattle.machine.specs.declared.Process.{Process}
 use Rattle.machine.specs.declared.Stage.the-variants.{A1, A2, A5, A6, V2, V3, V5}
 use Rattle.machine.specs.declared.Answer.the-variants.{False, True, Value}
@@ -139,7 +139,7 @@ pub in-order :
     ∷ refusal (keyed file idle (7 ∷ []) (replicate 15 0) (replicate 5 0) (keyOf 0 1023 2 0) .outcome)
     ∷ []
     ≡ 2 ∷ 13 ∷ 13 ∷ 14 ∷ 14 ∷ 15 ∷ 21 ∷ 21 ∷ 22 ∷ 22 ∷ 22 ∷ 0 ∷ []
-unfolding keyed pressed verdictOf judged refusalOf headerIn u16At marked headSize wordSize rowSize newPlace numberAt rowAt badField sameFields badByte firstBadField firstRow firstLaterRow firstByte tableOf rowsFrom anyImpossible impossible misplaced misdone rowNumbered first count
+unfolding keyed pressed verdictOf judged fileRefusal headerIn u16At marked headSize wordSize rowSize newPlace numberAt rowAt badField sameFields badByte firstBadField firstRow firstLaterRow firstByte tableOf rowsFrom anyImpossible impossible misplaced misdone rowNumbered first count
 in-order = refl
 
 -- bench case f, key after key: two rows in the log, the swap of process 1 and behind it the one that lost to it, and one answer
@@ -158,5 +158,5 @@ pub f-stepped :
     × (ended .words ≡ (9 + 2 * 65536) ∷ [])
     × (ended .log ≡ 10 ∷ 1 ∷ 1 ∷ 1 ∷ 0 ∷ 10 ∷ 0 ∷ 0 ∷ 0 ∷ 0 ∷ replicate 70 99)
     × (ended .answers ≡ 15 ∷ 0 ∷ 0 ∷ 0 ∷ 0 ∷ replicate 75 99)
-unfolding keyed pressed verdictOf judged refusalOf headerIn u16At marked headSize wordSize rowSize newPlace numberAt rowAt badField sameFields badByte firstBadField firstRow firstLaterRow firstByte tableOf rowsFrom anyImpossible impossible misplaced misdone rowNumbered first count stepping stepped stateOf names bitOf turnOf valueIn flipsIn bitIn swappedIn isSwapped onePast place insert isSwap firstSwap five entryAt infront spoken tried storing decide stepTurn turn apply applied procAt act step
+unfolding keyed pressed verdictOf judged fileRefusal headerIn u16At marked headSize wordSize rowSize newPlace numberAt rowAt badField sameFields badByte firstBadField firstRow firstLaterRow firstByte tableOf rowsFrom anyImpossible impossible misplaced misdone rowNumbered first count stepping stepped stateOf names bitOf turnOf valueIn flipsIn bitIn swappedIn isSwapped onePast place insert isSwap firstSwap five entryAt infront spoken tried storing decide stepTurn turn apply applied procAt act step
 f-stepped = (refl, refl, refl, refl)

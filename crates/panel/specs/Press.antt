@@ -14,8 +14,8 @@ use Rattle.runfile.specs.declared.Checked.the-variants as checked
 use Rattle.runfile.specs.declared.Refusal.the-variants.{WordsRoom, LogRoom, AnswersRoom}
 use Rattle.runfile.specs.Actions.{action}
 use Rattle.runfile.specs.Operations.{tableOf}
-use Rattle.runfile.specs.Lawful.{Lawful}
-use Rattle.runfile.specs.Refusals.{numberOf, badByte, refusalOf}
+use Rattle.runfile.specs.Lawful.{Lawful, ample}
+use Rattle.runfile.specs.Refusals.{numberOf, badByte, fileRefusal}
 use Rattle.rows.specs.Buffers.{rowsOf, flat, infront}
 use Rattle.machine.specs.declared.Process.{Process}
 use Rattle.machine.specs.Machine.{State, step}
@@ -35,10 +35,6 @@ abbrev pub numberOfWhy : Why → ℕ
 numberOfWhy (Run why) = numberOf why
 numberOfWhy Record = 21
 numberOfWhy Key = 22
-
--- "1 to 12 come from" the file: room for any run, so that 13 to 15 are not given by it
-abbrev pub ample : Room
-ample = record { words = 16; log = 5120; answers = 5120 }
 
 -- what is lent: the records, and the three buffers
 pub record Lent : Type 0 where
@@ -76,8 +72,9 @@ abbrev pub judgedAs : Checked → List ℕ → Table → Room → Stroke → Ver
 judgedAs (checked.Refused why place) f t room k = Not (Run why) place
 judgedAs (checked.Accepted h) f t room k = judged h f t room k
 
+-- "1 to 12 come from" the file
 unfoldable pub verdictOf : List ℕ → Table → Room → Stroke → Verdict
-verdictOf f t room k = judgedAs (refusalOf f ample) f t room k
+verdictOf f t room k = judgedAs (fileRefusal f) f t room k
 
 -- the state that is lent: the first P records, the words, and the rows that the counts give; and the state after the byte
 unfoldable pub stateOf : ℕ → Lent → Stroke → State

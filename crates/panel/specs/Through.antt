@@ -17,7 +17,7 @@ use Rattle.runfile.specs.Layout.{scheduleIn, rowsStart, strideOf}
 use Rattle.runfile.specs.Operations.{wordsFrom, wordsOf, tableOf, rowsFrom, rowNumbered}
 use Rattle.runfile.specs.OperationLaws.{length-wordsFrom, rowNumbered-rowsFrom, rowNumbered-past}
 use Rattle.runfile.specs.Refusals.{refusalOf}
-use Rattle.runfile.specs.Lawful.{Lawful, LawfulByte, lawful, lawful-not-bad, with-room}
+use Rattle.runfile.specs.Lawful.{Lawful, LawfulByte, lawful, lawful-not-bad, room-file}
 use Rattle.rows.specs.Buffers.{flat, infront}
 use Rattle.rows.specs.BufferLaws.{rows-back, again, length-infront, length-flat}
 use Rattle.machine.specs.declared.Process.{Process}
@@ -35,7 +35,7 @@ use Rattle.panel.specs.declared.Verdict.the-variants.{Fine}
 use Rattle.panel.specs.Possible.{impossible, anyImpossible}
 use Rattle.panel.specs.Lives.{Lives, lives-step, lives-begin, lives-possible}
 use Rattle.panel.specs.Longer.{longer, step-longer, grows}
-use Rattle.panel.specs.Press.{Lent, ample, lent, judged, verdictOf, stateOf, stepped, Pressed, carried, pressedAs, pressed, Leaves}
+use Rattle.panel.specs.Press.{Lent, lent, judged, verdictOf, stateOf, stepped, Pressed, carried, pressedAs, pressed, Leaves}
 use Rattle.panel.specs.Key.{keyed}
 
 -- the key after one that came to this: the counts are handed on; after a refusal none is pressed
@@ -145,7 +145,7 @@ module _ (f words log answers : List ℕ) (h : Header) (fine : refusalOf f (room
     unfolding verdictOf judged
     not-refused =
         rw (
-          with-room f (roomOf words log answers) ample h fine (l .head .words) (let a = l .head .steps in omega arith) (let a = l .head .steps in omega arith),
+          room-file f (roomOf words log answers) h fine,
           words-fit,
           log-fits,
           answers-fit,

@@ -19,7 +19,7 @@ ghost use lib.ListN.{length};
 ghost use Rattle.runfile.specs.Format.{RowSize};
 ghost use Rattle.runfile.specs.Operations.{rowsFrom, rowNumbered};
 ghost use Rattle.runfile.specs.Kinds.{kindOf};
-ghost use Rattle.runfile.specs.Lawful.{Lawful};
+ghost use Rattle.runfile.specs.Lawful.{Lawful, ample};
 ghost use Rattle.runfile.specs.Shares.{Lined};
 ghost use Rattle.machine.specs.Records.{rowOpen};
 ghost use Rattle.panel.specs.Possible as possible;
@@ -96,7 +96,7 @@ fn room_verdict(header: Header, held: usize, room: Room, key: Stroke) -> Verdict
 
 // 21 and 22: the position, the records and the byte.
 fn sound_verdict(file: &[u8], header: Header, processes: [Process; 16], key: Stroke) -> Verdict
-    requires { ⌜ Lawful header (now file) press.ample ⌝ }
+    requires { ⌜ Lawful header (now file) ample ⌝ }
     ensures { λ r. ⌜ r ≡ press.sound header (now (file .entry)) processes key ⌝ }
 {
     if 1023 < key.position {
@@ -115,16 +115,11 @@ fn sound_verdict(file: &[u8], header: Header, processes: [Process; 16], key: Str
     Verdict::Fine(header)
 }
 
-// The verdict on a key. The file is checked with room for any run, so that 13 to 15 are not given for it.
+// The verdict on a key.
 pub fn verdict_of(file: &[u8], table: Table, room: Room, key: Stroke) -> Verdict
     ensures { λ r. ⌜ r ≡ press.verdictOf (now (file .entry)) table room key ⌝ }
 {
-    let ample = Room {
-        words: 16,
-        log: 5120,
-        answers: 5120,
-    };
-    match runfile::check(file, ample) {
+    match runfile::check_file(file) {
         Checked::Refused(why, place) => Verdict::Not(Why::Run(why), place),
         Checked::Accepted(header) => match room_verdict(header, table.held, room, key) {
             Verdict::Not(why, place) => Verdict::Not(why, place),

@@ -1,6 +1,6 @@
 -- What a file is like that is not refused: the facts that later layers use, read off the checks that found nothing.
 use Prim.Native.Nat.{ℕ, zero, suc, _+_, _*_, _-_, _/_, _%_, _≤_, _<_}
-use mathlib.Core.Path.{_≡_, refl, sym, _∙_, subst}
+use mathlib.Core.Path.{_≡_, refl, sym, _∙_, ap, subst}
 use mathlib.Core.Bool.{Bool, true, false, cond, not, _&&_, _||_, true≢false}
 use mathlib.Core.List.{List}
 use native.Mathlib.Omega.{arith}
@@ -21,7 +21,7 @@ use Rattle.runfile.specs.Layout.{marked, headerIn, rowsStart, strideOf, 
 use Rattle.runfile.specs.Fields.{fields, fieldAt, orderOf, ordered}
 use Rattle.runfile.specs.Actions.{crashAll, none, actionOf}
 use Rattle.runfile.specs.Kinds.{kindOf}
-use Rattle.runfile.specs.Refusals.{outOfRange, zeroOld, zeroNew, badField, badIn, sameBy, sameFields, badAction, badByte, offendsAt, badFieldIn, firstBadField, firstRow, firstLaterRow, firstByte, below, same, found, headChecks, bodyChecks, fileChecks, roomChecks, inOrder, refusalOf}
+use Rattle.runfile.specs.Refusals.{outOfRange, zeroOld, zeroNew, badField, badIn, sameBy, sameFields, badAction, badByte, offendsAt, badFieldIn, firstBadField, firstRow, firstLaterRow, firstByte, below, same, found, headChecks, bodyChecks, fileChecks, roomChecks, inOrder, refusalOf, noRoom, fileRefusal}
 use Rattle.runfile.specs.Table.{Marked, Same, SameFields, rowOf, zeroByteOf, byteOf}
 use Rattle.runfile.specs.Order.{Clear, clear-parts, accepts, accepted, passes, whole-clear}
 use Rattle.runfile.specs.Searches.{none-found, none-offends}
@@ -198,13 +198,33 @@ lawful f room h e =
       answers-room = ltb-false (room .answers) (5 * h .steps) (whole-clear (ltb (room .answers) (5 * h .steps)) (d .1 .1 .1 .0));
     }
 
--- a file that is accepted with some buffers is accepted with any others that have room
-pub with-room : (f : List ℕ) (room other : Room) (h : Header) → refusalOf f room ≡ Accepted h
-    → h .words ≤ other .words → 5 * h .steps ≤ other .log → 5 * h .steps ≤ other .answers → refusalOf f other ≡ Accepted h
-unfolding refusalOf
-with-room f room other h e words log answers =
+-- a file that is not refused by 1 to 12 is accepted with any buffers that have room; and the other way round
+pub file-room : (f : List ℕ) (room : Room) (h : Header) → fileRefusal f ≡ Accepted h
+    → h .words ≤ room .words → 5 * h .steps ≤ room .log → 5 * h .steps ≤ room .answers → refusalOf f room ≡ Accepted h
+unfolding fileRefusal refusalOf
+file-room f room h e words log answers =
+    let g = headerIn f in
+    let a = accepts (found g f noRoom) g fileChecks h e in
+    passes (found g f room) g fileChecks roomChecks g (accepted (found g f room) g fileChecks (a .1))
+    ∙ rw (a .0, le-ltb (room .words) (h .words) words, le-ltb (room .log) (5 * h .steps) log, le-ltb (room .answers) (5 * h .steps) answers) refl
+
+pub room-file : (f : List ℕ) (room : Room) (h : Header) → refusalOf f room ≡ Accepted h → fileRefusal f ≡ Accepted h
+unfolding fileRefusal refusalOf
+room-file f room h e =
     let g = headerIn f in
     let a = accepts (found g f room) g inOrder h e in
     let c = clear-parts (found g f room) fileChecks roomChecks (a .1) .0 in
-    passes (found g f other) g fileChecks roomChecks g (accepted (found g f other) g fileChecks c)
-    ∙ rw (a .0, le-ltb (other .words) (h .words) words, le-ltb (other .log) (5 * h .steps) log, le-ltb (other .answers) (5 * h .steps) answers) refl
+    accepted (found g f noRoom) g fileChecks c ∙ ap Accepted (a .0)
+
+-- room for any run; a file that is not refused by 1 to 12 is lawful with it
+abbrev pub ample : Room
+ample = record { words = 16; log = 5120; answers = 5120 }
+
+pub lawful-file : (f : List ℕ) (h : Header) → fileRefusal f ≡ Accepted h → Lawful h f ample
+unfolding fileRefusal
+lawful-file f h e =
+    let a = accepts (found (headerIn f) f noRoom) (headerIn f) fileChecks h e in
+    let c : Clear (found h f noRoom) fileChecks = rw (a .0) at (a .1) in
+    let head = lawful-head h f noRoom (clear-parts (found h f noRoom) headChecks bodyChecks (c .1) .0) in
+    let few = head .steps in
+    lawful f ample h (file-room f ample h e (head .words) (omega arith) (omega arith))

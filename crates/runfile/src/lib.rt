@@ -210,8 +210,8 @@ fn check_body(file: &[u8], header: Header) -> Checked
     Checked::Accepted(header)
 }
 
-// Refusals 1 to 12: all that the file alone decides.
-fn check_file(file: &[u8]) -> Checked
+// Refusals 1 to 12: all that the file alone decides, for any bytes.
+pub fn check_file(file: &[u8]) -> Checked
     ensures { λ r. ⌜ r ≡ fileRefusal (now (file .entry)) ⌝ }
 {
     if file.len() < 11 {

@@ -1,5 +1,6 @@
 -- `open` meets its contract: a file that the check accepts is lawful, so its words are where they are read.
-use Rattle.runfile.specs.Promises.{decides-lawful}
+use mathlib.Core.Path.{sym, _∙_}
+use Rattle.runfile.specs.Lawful.{lawful-file}
 use borrow.Author.Needs.{needs}
 use Rattle.bench_panel.proofs.open.Statement.{statement}
 use Rattle.bench_panel.proofs.open.Tie as tie
@@ -7,7 +8,7 @@ use Rattle.bench_panel.proofs.open.Tie as tie
 start-words-requires : tie.Need-start-words-requires
 start-words-requires c κs =
     let accepted = c .before in
-    decides-lawful _ _ _ (accepted .before .before .check .ensures) _ (accepted .header .given .1)
+    lawful-file _ _ (sym (accepted .before .before .check-file .ensures) ∙ accepted .header .given .1)
 
 pub open-spec : {M : Type 1} → statement M
 open-spec =

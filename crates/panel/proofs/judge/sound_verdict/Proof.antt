@@ -8,7 +8,7 @@ use Rattle.runfile.specs.Shares.{Lined}
 use Rattle.runfile.specs.Operations.{tableOf}
 use Rattle.run.specs.Parts.{part-all, lined-part, table-part}
 use Rattle.panel.specs.Possible.{anyImpossible}
-use Rattle.panel.specs.Press.{ample}
+use Rattle.runfile.specs.Lawful.{ample}
 use borrow.Author.Needs.{needs}
 use Rattle.panel.proofs.judge.sound_verdict.Statement.{statement}
 use Rattle.panel.proofs.judge.sound_verdict.Tie as tie
