@@ -108,7 +108,7 @@ fn lend_records(
     answers: &mut [u32],
     key: Stroke,
 ) -> Pressed
-    ensures { λ r. ⌜ Keyed (now (file .entry)) (bench .records) (now (words .entry)) (now (log .entry)) (now (answers .entry)) key (r .outcome) (r .bench .records) (now (words .exit)) (now (log .exit)) (now (answers .exit)) ⌝ }
+    ensures { λ r. ⌜ Lends (now (file .entry)) bench (now (words .entry)) (now (log .entry)) (now (answers .entry)) key r (now (words .exit)) (now (log .exit)) (now (answers .exit)) ⌝ }
 {
     let mut records = records_of(bench);
     let outcome = panel::key(file, &mut records, words, log, answers, key);
@@ -283,7 +283,7 @@ fn main() {
         return;
     }
     // As in `swr`: one byte more than the longest run file has decides on every longer one.
-    let mut file = [0u8; 5196];
+    let mut file = [0u8; runfile::ENOUGH_BYTES];
     let n = io::read_full(fd, &mut file);
     libc::close(fd);
     open(&file[..n]);

@@ -52,7 +52,8 @@ pub fn run_bytes(
     part: Part,
 ) -> Standing
     requires { ⌜ Runnable part (now table) (now schedule) (now words) (now log) (now answers) ⌝ }
-    ensures { λ r. ⌜ Runs part (now (table .entry)) (now (schedule .entry)) (now (words .entry)) (now (log .entry)) (now (answers .entry)) r (now (words .exit)) (now (log .exit)) (now (answers .exit)) ⌝ }
+    ensures { λ r. ⌜ Runs part (now (table .entry)) (now (schedule .entry)) (now (words .entry)) (now (log .entry)) (now (answers .entry))
+        r (now (words .exit)) (now (log .exit)) (now (answers .exit)) ⌝ }
 {
     let stride = part.stride;
     let n = part.rows;

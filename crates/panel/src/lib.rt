@@ -96,7 +96,8 @@ pub fn key(
     answers: &mut [u32],
     key: Stroke,
 ) -> Outcome
-    ensures { λ r. ⌜ Keyed (now (file .entry)) (now (records .entry)) (now (words .entry)) (now (log .entry)) (now (answers .entry)) key r (now (records .exit)) (now (words .exit)) (now (log .exit)) (now (answers .exit)) ⌝ }
+    ensures { λ r. ⌜ Keyed (now (file .entry)) (now (records .entry)) (now (words .entry)) (now (log .entry)) (now (answers .entry)) key
+        r (now (records .exit)) (now (words .exit)) (now (log .exit)) (now (answers .exit)) ⌝ }
 {
     let n = held(records.len());
     let processes = take(records, n);

@@ -81,7 +81,8 @@ fn run_accepted(
     answers: &mut [u32],
 ) -> Outcome
     requires { ⌜ Lawful header (now file) (roomOf (now words) (now log) (now answers)) ⌝ }
-    ensures { λ r. ⌜ EndsAs (checked.Accepted header) (now (file .entry)) (now (words .entry)) (now (log .entry)) (now (answers .entry)) r (now (words .exit)) (now (log .exit)) (now (answers .exit)) ⌝ }
+    ensures { λ r. ⌜ EndsAs (checked.Accepted header) (now (file .entry)) (now (words .entry)) (now (log .entry)) (now (answers .entry))
+        r (now (words .exit)) (now (log .exit)) (now (answers .exit)) ⌝ }
 {
     let count = runfile::index8(header.words);
     let counts = run_words(file, header, &mut words[..count], log, answers);

@@ -56,6 +56,7 @@ use Rattle.bench_panel.specs.declared.Bench.{Bench}
 use Rattle.bench_panel.specs.declared.Pressed.{Pressed}
 use Rattle.panel.specs.declared.Stroke.{Stroke}
 use Rattle.panel.specs.Promises.{Keyed}
+use Rattle.bench_panel.specs.Promises.{Lends}
 use Rattle.panel.proofs.Outcome as O
 use Rattle.panel.proofs.Outcome.Laws as O′
 use Rattle.panel.proofs.Stroke as S
@@ -176,10 +177,10 @@ module _ {M : Type 1} (𝓤 : URA M) (H : Heap 𝓤) (A : Atoms 𝓤) (W : Given
 
   -- what the callees say, joined: the records that came out of the bench were lent, and the bench has what was left of them
   lent-and-back : (records : List Process) (m : Pressed) (r : Outcome) (left : List Process) (words′ log′ answers′ : List ℕ) → records ≡ bench .records → (m .bench .records ≡ left) × (m .outcome ≡ r)
-      → Keyed file records words log answers stroke r left words′ log′ answers′ → Keyed file (bench .records) words log answers stroke (m .outcome) (m .bench .records) words′ log′ answers′
+      → Keyed file records words log answers stroke r left words′ log′ answers′ → Lends file bench words log answers stroke m words′ log′ answers′
   lent-and-back records m r left words′ log′ answers′ out made is = rw (made .0, made .1, ← out) is
 
-  exits : (r : Pressed) (w : Val) (words′ log′ answers′ : List ℕ) → Keyed file (bench .records) words log answers stroke (r .outcome) (r .bench .records) words′ log′ answers′ → length words′ ≡ length words → length log′ ≡ length log → length answers′ ≡ length answers
+  exits : (r : Pressed) (w : Val) (words′ log′ answers′ : List ℕ) → Lends file bench words log answers stroke r words′ log′ answers′ → length words′ ≡ length words → length log′ ≡ length log → length answers′ ≡ length answers
       → ent 𝓤 (⋆ 𝓤 H A (‵ (flft κ₀ q₀) ∷ ‵ (flft κ₂ q₂) ∷ ‵ (flft κ₃ q₃) ∷ ‵ (flft κ₄ q₄) ∷ ‵ (ShrSlice (named 0) κ₀ u8 .own x₀ (s₀ ∷ [])) ∷ ‵ (finally u32 γ₂ words′) ∷ ‵ (finally u32 γ₃ log′) ∷ ‵ (finally u32 γ₄ answers′) ∷ ‵ (P.the-row .own r (w ∷ [])) ∷ [])) (Post w)
   exits r w words′ log′ answers′ is len₂ len₃ len₄ =
       qed W (‵ (flft κ₀ q₀) ∷ ‵ (flft κ₂ q₂) ∷ ‵ (flft κ₃ q₃) ∷ ‵ (flft κ₄ q₄) ∷ ‵ (ShrSlice (named 0) κ₀ u8 .own x₀ (s₀ ∷ [])) ∷ ‵ (finally u32 γ₂ words′) ∷ ‵ (finally u32 γ₃ log′) ∷ ‵ (finally u32 γ₄ answers′) ∷ ‵ (P.the-row .own r (w ∷ [])) ∷ []) ∵
