@@ -282,9 +282,8 @@ fn main() {
         os::fail(&path[..length]);
         return;
     }
-    // As in `swr`: one byte more than the longest run file has decides on every longer one.
     let mut file = [0u8; runfile::ENOUGH_BYTES];
-    let n = io::read_full(fd, &mut file);
+    let n = input::read_file(fd, &mut file);
     libc::close(fd);
     open(&file[..n]);
 }

@@ -1,6 +1,6 @@
 -- The definitions of a key at records and keys, by computation: of each condition of 21 a record that meets it and one beside it that does not;
 -- the order of the refusals; and bench case f, key after key.
-use Prim.Native.Nat.{ℕ, _+_, _*_}
+use Prim.Native.Nat.{ℕ, _+_, _*_, _^_}
 use mathlib.Core.Path.{_≡_, refl}
 use mathlib.Core.Bool.{true, false}
 use mathlib.Core.List.{List, [], _∷_, map}
@@ -20,7 +20,7 @@ use Rattle.machine.specs.declared.Opened.the-variants.{Closed, Open}
 use Rattle.machine.specs.declared.Stage.{Stage}
 use Rattle.machine.specs.declared.Status.{Status}
 use Rattle.machine.specs.declared.Status.the-variants.{Down, Idle, N2, N3, Busy}
-use Rattle.word.specs.Word.{bitOf, turnOf, valueIn, flipsIn, bitIn, swappedIn}
+use Rattle.word.specs.Word.{width, bitOf, turnOf, valueIn, flipsIn, bitIn, swappedIn}
 use Rattle.rows.specs.Entries.{isSwapped}
 use Rattle.rows.specs.Log.{onePast, place, insert, isSwap, firstSwap}
 use Rattle.rows.specs.Buffers.{five, entryAt, infront}
@@ -64,6 +64,7 @@ meets =
     ∷ with 1 (Open 0) None (at V3 None)
     ∷ with 1 (Open 0) None (at A5 (Is True))  -- an answer that a read never has
     ∷ with 1 (Open 0) (Is False) Down
+    ∷ with 1 (Open 0) (Is (Value (2 ^ width))) (at V5 None)  -- a value that no word can hold
     ∷ with 2 (Open 1) None (at A5 (Is (Value 7)))  -- or a compare
     ∷ with 2 (Open 1) (Is (Value 7)) Down
     ∷ []
@@ -90,12 +91,12 @@ can-be =
     ∷ with 1 Closed (Is (Value 7)) Down  -- an answer left over from a row that is closed
     ∷ []
 
-pub each-met : map (impossible rows 0) meets ≡ replicate 18 true
-unfolding impossible misplaced misdone rowNumbered first count
+pub each-met : map (impossible rows 0) meets ≡ replicate 19 true
+unfolding impossible misplaced misdone rowNumbered first count valueIn
 each-met = refl
 
 pub none-met : map (impossible rows 0) can-be ≡ replicate 17 false
-unfolding impossible misplaced misdone rowNumbered first count
+unfolding impossible misplaced misdone rowNumbered first count valueIn
 none-met = refl
 
 -- two processes, one word, the two rows, no schedule

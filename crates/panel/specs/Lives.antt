@@ -14,7 +14,8 @@ use Rattle.runfile.specs.declared.Kind.{Kind}
 use Rattle.runfile.specs.declared.Kind.the-variants.{Read, Compare}
 use Rattle.runfile.specs.Kinds.{kindOf}
 use Rattle.rows.specs.declared.Entry.{Entry}
-use Rattle.word.specs.Word.{value, bit}
+use Rattle.word.specs.Word.{width, value, bit}
+use Rattle.word.specs.Laws.{value-own}
 use Rattle.machine.specs.declared.Process.{Process}
 use Rattle.machine.specs.declared.Stage.{Stage}
 use Rattle.machine.specs.declared.Stage.the-variants.{A1, A2, A3, A4, A5, A6, V1, V2, V3, V4, V5, V6}
@@ -108,7 +109,7 @@ module _ (rows : List Row) (p : ℕ) where
     lives-read = go (kindOf row) refl
       where
         go : (kind : Kind) → kindOf row ≡ kind → Lives rows p (with-status (readBy kind (row .old) now t) r)
-        go Read q = go-on r _ h (at-work (r .stored) A5 (Is (Value (value now))) (rw q) (rw q) refl)
+        go Read q = go-on r _ h (at-work (r .stored) A5 (Is (Value (value now))) (rw q) (rw q (eq-eqb (value (value now)) (value now) (value-own width now))) refl)
         go Compare q =
             either (λ st. Lives rows p (with-status st r)) (eqb (value now) (row .old)) (Busy A2 now t 0 None) (Busy A5 now t 0 (Is False))
             (go-on r _ h (at-work (r .stored) A2 None (rw q) refl refl)) (go-on r _ h (at-work (r .stored) A5 (Is False) (rw q) (rw q) refl))

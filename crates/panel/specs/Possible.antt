@@ -7,6 +7,7 @@ use mathlib.Core.List.{List}
 use lib.Dec.{eqb, leb, ltb}
 use lib.ListN.{getD}
 use Rattle.runfile.specs.declared.Row.{Row}
+use Rattle.word.specs.Word.{value}
 use Rattle.runfile.specs.Operations.{rowNumbered, first, count}
 use Rattle.runfile.specs.declared.Kind.{Kind}
 use Rattle.runfile.specs.declared.Kind.the-variants.{Read, Compare}
@@ -44,10 +45,11 @@ abbrev pub hasStage : Kind → Stage → Bool
 hasStage Read stage = readHas stage
 hasStage Compare stage = true
 
+-- a read answers with what is a value, that is with a number that is its own value
 abbrev pub readSays : Answer → Bool
 readSays False = false
 readSays True = false
-readSays (Value v) = true
+readSays (Value v) = eqb (value v) v
 
 abbrev pub compareSays : Answer → Bool
 compareSays False = true

@@ -39,14 +39,14 @@ fn has_stage(kind: Kind, stage: Stage) -> bool
     }
 }
 
-// The answers of a read, and those of a compare.
+// The answers of a read, which are what a word can hold, and those of a compare.
 fn read_says(answer: Answer) -> bool
     ensures { λ r. ⌜ r ≡ possible.readSays answer ⌝ }
 {
     match answer {
         Answer::False => false,
         Answer::True => false,
-        Answer::Value(_) => true,
+        Answer::Value(v) => word::value_of(v) == v,
     }
 }
 

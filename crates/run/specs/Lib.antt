@@ -1,3 +1,4 @@
 pub mod Run
 pub mod Only
 pub mod Parts
+pub mod FirstBytes

@@ -11,10 +11,8 @@ fn put_run(out: &mut [u8], file: &[u8]) -> usize {
 }
 
 fn main() {
-    // Room for one byte more than the longest run file has: a longer file is refused for its length or for what stands
-    // in its header, and so many bytes of it decide which.
     let mut file = [0u8; runfile::ENOUGH_BYTES];
-    let n = io::read_full(0, &mut file);
+    let n = input::read_file(0, &mut file);
     // Room for every outcome. The longest lines: `run` 19 bytes; `word` 20, at most 16 times; `log` 24 and `answer` 27
     // (a position below 1,024, a process below 16, a row below 512, one digit, a value below 65,536), each at most
     // 1,024 times. That is 52,563 bytes.

@@ -4,7 +4,7 @@ use mathlib.Core.Path.{_≡_, refl, sym, _∙_, ap, ap₂}
 use mathlib.Core.Bool.{Bool, true, false, not}
 use lib.Dec.{eqb}
 use lib.Pow.{high, low, split, shr-shr, pow-pos}
-use native.Mathlib.Nat.{mod-lt}
+use native.Mathlib.Nat.{mod-lt, mod-eq-of-lt}
 use borrow.Author.Tests.{eqb-true, eqb-false}
 use Rattle.word.specs.Word.{valueIn, flipsIn, bitIn, swappedIn, bitOf, turnOf}
 use Rattle.word.specs.Bits.{bit-turn-same, bit-turn-other, bit-of-div, bits-one}
@@ -20,6 +20,11 @@ module _ (b : ℕ) where
   pub value-fits : (w : ℕ) → valueIn b w < 2 ^ b
   unfolding valueIn
   value-fits w = mod-lt w (pow-pos b)
+
+  -- a value is its own value
+  pub value-own : (w : ℕ) → valueIn b (valueIn b w) ≡ valueIn b w
+  unfolding valueIn
+  value-own w = mod-eq-of-lt (mod-lt w (pow-pos b))
 
   -- the flip bit of process p is bit b + p, counted in the whole word
   pub bit-stands : (p w : ℕ) → bitIn b p w ≡ bitOf (b + p) w
