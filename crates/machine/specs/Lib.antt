@@ -2,6 +2,7 @@ pub mod Stages
 pub mod Records
 pub mod Turn
 pub mod Steps
+pub mod Choices
 pub mod KindLaws
 pub mod Machine
 pub mod Reach

@@ -5,7 +5,7 @@ use Prim.Native.Nat.{ℕ, zero, suc, _+_, _≤_, _<_}
 use mathlib.Core.Path.{_≡_, refl, sym, ap, _∙_, subst}
 use mathlib.Core.Bool.{Bool, true, false, cond}
 use mathlib.Core.List.{List, [], _∷_, _++_}
-use mathlib.Core.Logic.{_⊎_, inl, inr}
+use mathlib.Core.Logic.{_⊎_, inl, inr, ⊎-elim}
 use native.Mathlib.Omega.{arith}
 use lib.Dec.{eqb}
 use lib.ListN.{length, replicate, length-set, length-map, length-replicate}
@@ -24,10 +24,11 @@ use Rattle.machine.specs.declared.Maybe.the-variants.{None, Is}
 use Rattle.machine.specs.declared.Opened.the-variants.{Closed, Open}
 use Rattle.machine.specs.declared.Status.{Status}
 use Rattle.machine.specs.declared.Status.the-variants.{Down, Idle, N2, N3, Busy}
-use Rattle.machine.specs.Turn.{Logs, Loses}
-use Rattle.word.specs.Word.{value, bit, valueIn, bitIn, swappedIn, bitOf, turnOf, flipsIn}
+use Rattle.machine.specs.Turn.{Turn, Logs, Loses}
+use Rattle.word.specs.Word.{value, valueIn, bitIn, swappedIn, bitOf, turnOf, flipsIn}
 use Rattle.machine.specs.Records.{fresh, with-status, closed, wokenUp}
-use Rattle.machine.specs.Steps.{recovered, sameBit, tried, storing, decide, stepTurn, working}
+use Rattle.machine.specs.Steps.{recovered, tried, storing, decide, stepTurn, working}
+use Rattle.machine.specs.Choices.{LeadsTo, v3-either}
 use Rattle.machine.specs.Machine.{State, processOf, turn, apply, applied, procAt, act, step, after, begin}
 use Rattle.machine.specs.Laws.{after-join, after-snoc}
 use Rattle.machine.specs.KindLaws.{either, read-leads, tried-leads}
@@ -115,7 +116,7 @@ abbrev Due : (all n begun : ℕ) → Process → Type 0
 Due all n begun r = Ended begun r ⊎ Pending all n begun r
 
 -- a count that comes to 0 has counted nothing
-none-more : (c : Bool) {n : ℕ} → cond c (suc n) n ≡ 0 → (c ≡ false) × (n ≡ 0)
+pub none-more : (c : Bool) {n : ℕ} → cond c (suc n) n ≡ 0 → (c ≡ false) × (n ≡ 0)
 none-more true e = absurd (omega arith)
 none-more false e = (refl, e)
 
@@ -130,6 +131,9 @@ module _ (row : Row) (p t now : ℕ) (r : Process) (all n begun k : ℕ) (o : r 
 
   closes : Nearer (closed r)
   closes = inl (record { idle = refl; no-row = refl; begun = b })
+
+  led : {stage : Stage} {u : Turn} → LeadsTo r stage u → further stage < n → Nearer (processOf r u)
+  led l m = subst (λ u. Nearer (processOf r u)) (sym (l .is)) (on _ m refl refl)
 
   -- "A5: store the answer": whatever goes into the log
   stored : (next : Process) (seen readAt triedAt : ℕ) (answer : Maybe) → processOf r (storing row next seen readAt triedAt answer) ≡ next
@@ -154,7 +158,7 @@ module _ (row : Row) (p t now : ℕ) (r : Process) (all n begun k : ℕ) (o : r 
       go None = omega arith
       go (Is a) = omega arith
   nearer V2 seen readAt triedAt answer m = on _ (either (λ g. further g < n) (r .checkpoint) V3 V6 (omega arith) (omega arith)) refl refl
-  nearer V3 seen readAt triedAt answer m = on _ (either (λ g. further g < n) (sameBit (bit p now) (r .kept)) V4 V6 (omega arith) (omega arith)) refl refl
+  nearer V3 seen readAt triedAt answer m = ⊎-elim (λ l. led l (omega arith)) (λ l. led l (omega arith)) (v3-either row p t now r seen readAt triedAt answer)
   nearer V4 seen readAt triedAt answer m = on _ (omega arith) refl refl
   nearer V5 seen readAt triedAt answer m = closes
   nearer V6 seen readAt triedAt answer m = closes
@@ -190,7 +194,7 @@ module _ (rows : List Row) (p : ℕ) where
       go (Busy stage seen readAt triedAt answer) w = (λ d. (let z : _≡_ {A = ℕ} 0 1 = cc in omega arith), omega arith)
 
   -- no byte adds or removes a process
-  size : (t byte : ℕ) (s : State) → length (step rows t byte s .processes) ≡ length (s .processes)
+  pub size : (t byte : ℕ) (s : State) → length (step rows t byte s .processes) ≡ length (s .processes)
   unfolding step act applied apply
   size t byte s = go (action byte)
     where
@@ -266,7 +270,7 @@ module _ (rows : List Row) (p : ℕ) where
       go (suc n) (inr d) y false x l ih = onward (suc n) (suc n) begun t byte bytes s (rw x (omega arith)) (ih (suc n) (rw (kept t byte s (awake (suc n) begun (procAt p s) d .0) x y) (inr d)) l)
 
   -- p is one of the processes throughout
-  present : (t : ℕ) (bytes : List ℕ) (s : State) → p < length (s .processes) → p < length (after rows t bytes s .processes)
+  pub present : (t : ℕ) (bytes : List ℕ) (s : State) → p < length (s .processes) → p < length (after rows t bytes s .processes)
   unfolding after
   present t [] s h = h
   present t (byte ∷ bytes) s h = present (suc t) bytes (step rows t byte s) (rw (size t byte s) h)
