@@ -1,31 +1,26 @@
 -- The announcement of a row is three stores, and a process may be cut off between any two. Whatever is cut off: demand 3 holds, for it
--- holds of every schedule (`demand3`); a process that is cut off wakes idle with no row open, and has the same row to announce; and a row is
--- begun at one byte at most, and at exactly one if it has begun. For how many rows a process has begun never falls.
+-- holds of every schedule (`demand3`); a process that is cut off wakes idle with no row open, and has the same row to announce
+-- (`announced-again`, in the machine's `Cut`); and a row is begun at one byte at most, and at exactly one if it has begun. For how many rows a
+-- process has begun never falls.
 use Prim.Native.Nat.{ℕ, suc, _+_, _≤_, _<_}
 use mathlib.Core.Path.{_≡_, refl, sym, ap, subst}
 use mathlib.Core.Bool.{Bool, true, false, not, _&&_}
-use mathlib.Core.List.{List, [], _∷_, map}
+use mathlib.Core.List.{List, [], _∷_}
 use native.Mathlib.Omega.{arith}
 use native.Mathlib.Nat.{zero-add}
 use lib.Dec.{ltb}
-use lib.ListN.{length, getD, set, length-set}
-use lib.Seq.{getD-set-same}
+use lib.ListN.{length}
 use borrow.Author.Tests.{ltb-true, lt-ltb, le-ltb}
 use Rattle.runfile.specs.declared.Row.{Row}
 use Rattle.runfile.specs.Operations.{first}
-use Rattle.runfile.specs.Actions.{action, named, crash as crashes, wake as wakes}
-use Rattle.word.specs.Word.{value}
-use Rattle.machine.specs.declared.Opened.the-variants.{Closed}
 use Rattle.machine.specs.declared.Process.{Process}
 use Rattle.machine.specs.declared.Status.{Status}
 use Rattle.machine.specs.declared.Status.the-variants.{Down, Idle, N2, N3, Busy}
-use Rattle.machine.specs.Records.{fresh, with-status, crashed, waked, Announcing}
-use Rattle.machine.specs.Machine.{State, procAt, apply, applied, act, step, after, begin}
+use Rattle.machine.specs.Records.{waked}
+use Rattle.machine.specs.Machine.{State, procAt, step, after, begin}
 use Rattle.machine.specs.Laws.{Turned, still, first-store, second-store, third-store, works, on, ends, each-after, fresh-at}
 use Rattle.demand3.specs.Statement.{counts, ownerOf}
-use Rattle.demand3.specs.Invariant.{StatusOk}
 use Rattle.demand3.specs.Plans.{Plan, Covered, covered}
-use Rattle.demand3.specs.Order.{Always, inv}
 
 module _ (rows : List Row) (p n : ℕ) where
   -- process p has begun n rows or more
@@ -100,25 +95,3 @@ module _ (rows : List Row) (words : List ℕ) (P : ℕ) (plan : Plan P (length w
       let e : beginCount rows k 0 schedule (begin P words) + counts (hasBegun rows k (begin P words)) ≡ counts (hasBegun rows k (after rows 0 schedule (begin P words))) = begins-so-far rows k 0 schedule (begin P words) in
       let z : counts (hasBegun rows k (begin P words)) ≡ 0 = ap counts not-at-first in
       omega arith
-
--- "A process cut off before the third has no row open, wakes idle and begins the same row again": after any schedule, p is at N2 or N3, and is
--- crashed and woken; then it is idle with no row open, and all that is kept is as it was, so that it announces the row that it had announced
-module _ (rows : List Row) (words : List ℕ) (P : ℕ) (plan : Plan P (length words) rows) (schedule : List ℕ) (p : ℕ) (here : p < P) where
-  abbrev s : State
-  s = after rows 0 schedule (begin P words)
-
-  no-row : (st : Status) → Announcing st → StatusOk rows (map value words) Always p (0 + length schedule) (s .words) (s .log) (procAt p s) st → procAt p s .opened ≡ Closed
-  no-row Down a h = absurd a
-  no-row Idle a h = absurd a
-  no-row N2 a h = h .0
-  no-row N3 a h = h .0
-  no-row (Busy stage seen readAt triedAt answer) a h = absurd a
-
-  pub announced-again : Announcing (procAt p s .status) → (t crash wake : ℕ) → action crash ≡ crashes → named crash ≡ p → action wake ≡ wakes → named wake ≡ p
-      → (procAt p s .opened ≡ Closed) × (procAt p (after rows t (crash ∷ wake ∷ []) s) ≡ with-status Idle (procAt p s))
-  unfolding after step act applied apply procAt
-  announced-again a t crash wake c cp w wp =
-      let inside : p < length (s .processes) = subst (λ n. p < n) (sym (inv rows words P plan schedule .size)) here in
-      let shut : procAt p s .opened ≡ Closed = no-row (procAt p s .status) a (inv rows words P plan schedule .local p here .work) in
-      let r : Process = procAt p s in
-      (shut, rw (c, cp, w, wp, getD-set-same (set (s .processes) p (crashed r)) p (waked (getD (set (s .processes) p (crashed r)) p fresh) (getD (set (s .processes) p (crashed r)) p fresh .status)) fresh (rw (length-set (s .processes) p (crashed r)) inside), getD-set-same (s .processes) p (crashed r) fresh inside, shut) refl)

@@ -100,7 +100,7 @@ getD-either (x ∷ l) zero d e h = refl
 getD-either (x ∷ l) (suc i) d e h = getD-either l i d e (omega arith)
 
 -- the record of q after process p has been given another
-record-set : (l : List Process) (p q : ℕ) (r : Process) → ((q ≡ p) × (getD (set l p r) q fresh ≡ r)) ⊎ (getD (set l p r) q fresh ≡ getD l q fresh)
+pub record-set : (l : List Process) (p q : ℕ) (r : Process) → ((q ≡ p) × (getD (set l p r) q fresh ≡ r)) ⊎ (getD (set l p r) q fresh ≡ getD l q fresh)
 record-set l p q r = go (eqb q p) refl (ltb p (length l)) refl
   where
     go : (c : Bool) → eqb q p ≡ c → (d : Bool) → ltb p (length l) ≡ d → ((q ≡ p) × (getD (set l p r) q fresh ≡ r)) ⊎ (getD (set l p r) q fresh ≡ getD l q fresh)

@@ -10,4 +10,5 @@ pub mod Laws
 pub mod Promises
 pub mod OneByte
 pub mod Limits
+pub mod Cut
 pub mod Only
