@@ -11,4 +11,5 @@ pub mod Promises
 pub mod OneByte
 pub mod Limits
 pub mod Cut
+pub mod Absent
 pub mod Only
