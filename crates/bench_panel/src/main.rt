@@ -1,5 +1,5 @@
 // The bench panel: the argument names a run file, keys come in on standard input, one a line, and what each key changed
-// goes out as lines of text. docs/PANEL.md has the lines.
+// goes out as lines of text. docs/PANEL.md has the lines (R209).
 //
 // The records stand in a list of the program's own, and are lent to `panel::key` for one byte, which is proved against the
 // machine's own step. Nothing is stepped here; what changed is read off the bench before the key and the bench after it.
@@ -38,7 +38,7 @@ struct Pressed {
     outcome: Outcome,
 }
 
-// Puts what a byte does. A byte of high four bits that are no action has none.
+// Puts what a byte does, by its high four bits; those that give no action have nothing to put (R72).
 fn put_action(out: &mut [u8], at: usize, byte: u8) -> usize {
     let q = (byte % 16) as u64;
     match byte / 16 {
@@ -255,7 +255,7 @@ fn start(file: &[u8], header: Header, words: [u32; 16]) {
     take_lines(file, bench, &mut out, &mut log, &mut answers);
 }
 
-// Judges the file, as the panel does at each key.
+// Judges the file, as the panel does at each key (R221).
 fn open(file: &[u8]) {
     match runfile::check_file(file) {
         Checked::Refused(why, place) => {

@@ -1,5 +1,5 @@
--- The twelve bench cases of document 01 as one table, and one statement, by computation: the definitions that `run`'s contract cites
--- give on each file what the document says. Each start has the two bytes more of change request 1, and the positions behind it are moved.
+-- The twelve bench cases as one table (R260 to R272), and one statement, by computation: the definitions that `run`'s contract cites give on
+-- each file what the table says (R295).
 use Prim.Native.Nat.{ℕ}
 use mathlib.Core.Path.{_≡_, refl}
 use mathlib.Core.List.{List, [], _∷_, _++_, map}
@@ -23,18 +23,18 @@ joined : List (List ℕ) → List ℕ
 joined [] = []
 joined (x ∷ xs) = x ++ joined xs
 
--- "5·00" means five times
+-- the same byte several times over
 times : ℕ → ℕ → List ℕ
 times n byte = replicate n byte
 
--- the eight bytes of a row: process, kind, word, a zero byte, old and new. All cases are on word 0, with values below 256
+-- the eight bytes of a row that compares, and of one that reads (R10). All cases are on word 0, with values below 256
 compares : (p old new : ℕ) → List ℕ
 compares p old new = p ∷ 1 ∷ 0 ∷ 0 ∷ old ∷ 0 ∷ new ∷ 0 ∷ []
 
 reads : (p : ℕ) → List ℕ
 reads p = p ∷ 0 ∷ 0 ∷ 0 ∷ 0 ∷ 0 ∷ 0 ∷ 0 ∷ []
 
--- a file of P processes and "one word, starting at 7": `SWR`, version 1, P, W, rows, S; the word; the rows; the schedule
+-- a file of P processes and one word that starts at 7 (R260): the header (R2), the word, the rows and the schedule
 file : (P : ℕ) → List (List ℕ) → List ℕ → List ℕ
 file P rows schedule =
     0x53 ∷ 0x57 ∷ 0x52 ∷ 1 ∷ 0 ∷ P ∷ 1 ∷ length rows ∷ 0 ∷ length schedule ∷ 0 ∷ 7 ∷ 0 ∷ 0 ∷ 0 ∷ (joined rows ++ schedule)
@@ -47,7 +47,7 @@ lentWords = replicate 2 99
 pub lentRows : List ℕ
 lentRows = replicate 110 99
 
--- what a run comes to, in the document's numbers: the refusal and its place, or the two row counts; then the three buffers
+-- what a run comes to, in numbers: the refusal and its place, or the two row counts (R185); then the three buffers
 pub data Result : Type 0 where
   refused : (number place : ℕ) → Result
   ran : (log answers : ℕ) → Result
@@ -62,12 +62,12 @@ pub resultOf : Outcome → Result
 resultOf (outcome.Refused why at) = refused (numberOf why) at
 resultOf (outcome.Ran log answers) = ran log answers
 
--- a case: the file, and what the document says of it
+-- a case: the file, and what is said of it in R261 to R272
 pub record Case : Type 0 where
   pub file : List ℕ
   pub says : Ended
 
--- a log or answer row of five numbers: position, process, row number, verdict, value
+-- the five numbers of a log or answer row (R160)
 row : (position process number verdict value : ℕ) → List ℕ
 row position process number verdict value = position ∷ process ∷ number ∷ verdict ∷ value ∷ []
 
@@ -85,16 +85,16 @@ comesTo f log answers word =
           };
     }
 
--- the file is refused, and all buffers stay untouched
+-- the file is refused, and all buffers stay untouched (R34)
 isRefused : List ℕ → (number place : ℕ) → Case
 isRefused f number at =
     record { file = f; says = record { result = refused number at; words = lentWords; log = lentRows; answers = lentRows } }
 
--- a: a swap from its start to its answer
+-- a: a swap from its start to its answer (R261)
 a : Case
 a = comesTo (file 1 (compares 0 7 8 ∷ []) (times 9 0x00)) (row 6 0 0 1 0 ∷ []) (row 8 0 0 1 0 ∷ []) 65544
 
--- b: p0 crashes behind A1, and p1 has swapped to the very value that p0 wants: p0 gets fail
+-- b: p0 crashes behind A1, and p1 has swapped to the very value that p0 wants: p0 gets fail (R262)
 b : Case
 b =
     comesTo
@@ -103,11 +103,11 @@ b =
     (row 15 0 0 2 0 ∷ [])
     131080
 
--- c: a crash between A3 and A4: the checkpoint is set and nothing swapped, so fail
+-- c: a crash between A3 and A4: the checkpoint is set and nothing swapped, so fail (R263)
 c : Case
 c = comesTo (file 1 (compares 0 7 8 ∷ []) (joined (times 6 0x00 ∷ times 1 0x10 ∷ times 1 0x20 ∷ times 4 0x00 ∷ []))) [] (row 11 0 0 2 0 ∷ []) 7
 
--- d: a crash straight behind A4: the flip bit tells that the swap was done, so true
+-- d: a crash straight behind A4: the flip bit tells that the swap was done, so true (R264)
 d : Case
 d =
     comesTo
@@ -116,7 +116,7 @@ d =
     (row 13 0 0 1 0 ∷ [])
     65544
 
--- e: as d, and another swap has changed the value since: still true
+-- e: as d, and another swap has changed the value since: still true (R265)
 e : Case
 e =
     comesTo
@@ -125,7 +125,7 @@ e =
     (row 20 0 0 1 0 ∷ [])
     196617
 
--- f: a lost swap: it is logged behind the swap to which it lost
+-- f: a lost swap: it is logged behind the swap to which it lost (R266)
 f : Case
 f =
     comesTo
@@ -134,7 +134,7 @@ f =
     (row 15 0 0 0 0 ∷ [])
     131081
 
--- g: as f, with a crash before the answer is stored: fail, and not in the log
+-- g: as f, with a crash before the answer is stored: fail, and not in the log (R267)
 g : Case
 g =
     comesTo
@@ -143,19 +143,19 @@ g =
     (row 19 0 0 2 0 ∷ [])
     131081
 
--- h: a read
+-- h: a read (R268)
 h : Case
 h = comesTo (file 1 (reads 0 ∷ []) (times 6 0x00)) (row 3 0 0 3 7 ∷ []) (row 5 0 0 3 7 ∷ []) 7
 
--- i: a compare that finds another value
+-- i: a compare that finds another value (R269)
 i : Case
 i = comesTo (file 1 (compares 0 5 6 ∷ []) (times 6 0x00)) (row 3 0 0 0 0 ∷ []) (row 5 0 0 0 0 ∷ []) 7
 
--- j: a crash of all, a step of a process that is down, a wake with no row open, a start of three stores
+-- j: a crash of all, a step that changes nothing (R140), a wake that makes idle (R132), and N1 to N3 (R270)
 j : Case
 j = comesTo (file 1 (compares 0 7 8 ∷ []) (joined (times 1 0xF0 ∷ times 1 0x00 ∷ times 1 0x20 ∷ times 3 0x00 ∷ []))) [] [] 7
 
--- k: as d, with a second crash when recovery has stored true: the second recovery returns it
+-- k: as d, with a second crash when recovery has stored true: the second recovery returns it (R271)
 k : Case
 k =
     comesTo
@@ -167,7 +167,7 @@ k =
     (row 16 0 0 1 0 ∷ [])
     65544
 
--- l: a compare row with old equal to new
+-- l: a compare that would swap a value for itself (R51, R272)
 l : Case
 l = isRefused (file 1 (compares 0 7 7 ∷ []) []) 11 15
 
@@ -185,7 +185,7 @@ ended f =
       answers = answersLeft checked f lentRows;
     }
 
--- the statement: each file of the table ends as the table says
+-- the statement: each file of the table ends as the table says (R295)
 pub cases : map (λ x. ended (x .file)) table ≡ map (λ x. x .says) table
 unfolding joined times compares reads file lentWords lentRows resultOf row comesTo isRefused a b c d e f g h i j k l table ended u16At u32At marked headSize wordSize rowSize newPlace headerIn numberAt rowAt wordsOf rowsFrom tableOf rowNumbered first count names badField firstBadField sameFields badByte firstRow firstLaterRow firstByte refusalOf bitOf turnOf valueIn flipsIn bitIn swappedIn isSwapped onePast place insert isSwap firstSwap five infront spoken tried storing decide stepTurn turn apply applied procAt act step after begin endOf
 cases = refl

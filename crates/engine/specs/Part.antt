@@ -21,7 +21,7 @@ use Rattle.machine.specs.Steps.{storing}
 use Rattle.machine.specs.Machine.{State, effectOf, logAfter, after}
 use Rattle.machine.specs.Laws.{Sane}
 
--- the words are the state's; log and answers hold its m and k rows in front, and behind them what stood there
+-- the words are the state's; log and answers hold its m and k rows in front (R183), and behind them what stood there (R184)
 pub record Holds (s : State) (log answers : List ℕ) (m k : ℕ) (words′ log′ answers′ : List ℕ) : Type 0 where
   pub words-are : words′ ≡ s .words
   pub log-count : m ≡ length (s .log)
@@ -55,7 +55,7 @@ pub record Left (s : State) (P : ℕ) (from : Standing) (size : ℕ) (log answer
   pub position-is : r .position ≡ from .position + size
   pub holds : Holds s log answers (r .log) (r .answers) words′ log′ answers′
 
--- the state after the bytes
+-- the state after the bytes, each at its position (R70 to R173)
 abbrev pub Runs : (part : Part) (table bytes words log answers : List ℕ) (r : Standing) (words′ log′ answers′ : List ℕ) → Type 0
 Runs part table bytes words log answers =
     Left (after (rowsOfPart part table) (part .from .position) bytes (stateLent (part .present) (part .from) words log answers)) (part .present) (part .from) (length bytes) log answers

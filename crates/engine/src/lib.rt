@@ -1,5 +1,5 @@
-// The engine: a part of a schedule, run over lent buffers. The step rules are carried out here, and nowhere else. The
-// whole run is all of the schedule from position 0 and fresh records on; a key of the panel is a part of one byte.
+// The engine: a part of a schedule, run over lent buffers. R70 to R173 are carried out here, and nowhere else. The whole
+// run is all of the schedule from position 0 and fresh records on (R181); a key of the panel is a part of one byte (R202).
 use machine::Answer;
 use machine::Maybe;
 use machine::Opened;
@@ -72,12 +72,16 @@ pub fn run_bytes(
         let me = byte % 16;
         let at = runfile::index8(me);
         i += 1;
+        // The action (R72, R301).
         match byte / 16 {
+            // A step (R100).
             0 => {
                 let named = processes[at];
                 let status = named.status;
                 match status {
+                    // Nothing (R140).
                     Status::Down => {}
+                    // N1 (R101), where rows are left (R141).
                     Status::Idle => {
                         let process = processes[at];
                         if process.begun < counts[at] {
@@ -88,6 +92,7 @@ pub fn run_bytes(
                             };
                         }
                     }
+                    // N2 (R102).
                     Status::N2 => {
                         let process = processes[at];
                         processes[at] = Process {
@@ -96,6 +101,7 @@ pub fn run_bytes(
                             ..process
                         };
                     }
+                    // N3 (R103).
                     Status::N3 => {
                         let process = processes[at];
                         processes[at] = start(process, firsts[at]);
@@ -113,12 +119,14 @@ pub fn run_bytes(
                         let k = runfile::index16(row);
                         let number = stage_number(stage);
                         match number {
+                            // A1 (R111).
                             0 => {
                                 let operation = runfile::row_at(table, stride, k);
                                 let now = word_now(table, stride, k, words);
                                 let status = after_read(operation, now, position);
                                 processes[at] = Process { status, ..process };
                             }
+                            // A2 (R112).
                             1 => {
                                 let status = busy(Stage::A3, seen, read_at, tried_at, answer);
                                 let kept = !word::bit_of(me as u32, seen);
@@ -128,6 +136,7 @@ pub fn run_bytes(
                                     ..process
                                 };
                             }
+                            // A3 (R113).
                             2 => {
                                 let status = busy(Stage::A4, seen, read_at, tried_at, answer);
                                 processes[at] = Process {
@@ -136,6 +145,7 @@ pub fn run_bytes(
                                     ..process
                                 };
                             }
+                            // A4: the swap, with its log row, or lost (R114, R164).
                             3 => {
                                 let now = word_now(table, stride, k, words);
                                 if now == seen {
@@ -154,6 +164,7 @@ pub fn run_bytes(
                                     processes[at] = Process { status, ..process };
                                 }
                             }
+                            // A5, with the log row of any other answer (R115, R165 to R167).
                             4 => {
                                 let status = busy(Stage::A6, seen, read_at, tried_at, answer);
                                 processes[at] = Process {
@@ -171,23 +182,27 @@ pub fn run_bytes(
                                 };
                                 log_rows = enter(table, stride, n, log, log_rows, work);
                             }
+                            // V1 (R121).
                             6 => {
                                 let stored = process.stored;
                                 let next = recovered_of(stored);
                                 let status = busy(next, seen, read_at, tried_at, answer);
                                 processes[at] = Process { status, ..process };
                             }
+                            // V2 (R122).
                             7 => {
                                 let next = by_checkpoint(process.checkpoint);
                                 let status = busy(next, seen, read_at, tried_at, answer);
                                 processes[at] = Process { status, ..process };
                             }
+                            // V3 (R123).
                             8 => {
                                 let now = word_now(table, stride, k, words);
                                 let next = by_bit(me, now, process.kept);
                                 let status = busy(next, now, read_at, tried_at, answer);
                                 processes[at] = Process { status, ..process };
                             }
+                            // V4 (R124).
                             9 => {
                                 let status = busy(Stage::V5, seen, read_at, tried_at, answer);
                                 let stored = Maybe::Is(Answer::True);
@@ -197,6 +212,7 @@ pub fn run_bytes(
                                     ..process
                                 };
                             }
+                            // A6, V5 and V6, with the answer row (R116, R125, R126, R163).
                             _ => {
                                 let stored = process.stored;
                                 let said = reply_of(number, answer, stored);
@@ -213,6 +229,7 @@ pub fn run_bytes(
                     }
                 }
             }
+            // A crash: it leaves a process that is down as it is (R130, R142).
             1 => {
                 let process = processes[at];
                 processes[at] = Process {
@@ -220,6 +237,7 @@ pub fn run_bytes(
                     ..process
                 };
             }
+            // A wake, of a process that is down (R131, R132, R143).
             2 => {
                 let named = processes[at];
                 let status = named.status;
@@ -240,7 +258,9 @@ pub fn run_bytes(
                     }
                 }
             }
+            // No action: no such byte is accepted (R73).
             3..=14 => {}
+            // A crash of all (R133).
             _ => {
                 let down = crash_first(processes, present);
                 processes = down;

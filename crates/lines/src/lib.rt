@@ -1,4 +1,4 @@
-// The lines of an outcome, for every program that prints one, or a part of one.
+// The lines of an outcome (R190 to R196), for every program that prints one, or a part of one.
 //
 // What is put where is not promised: these functions promise only that nothing goes wrong. What they print is held
 // against an independent program's text by the comparison of `second/`.
@@ -16,7 +16,7 @@ fn wide(n: u32) -> u64 {
     n as u64
 }
 
-// Puts the line of one word: its number, its value and its flip bits as one number.
+// Puts the line of one word: its number, its value and its flip bits as one number (R192).
 pub fn put_word(out: &mut [u8], at: usize, number: usize, word: u32) -> usize {
     let mut next = put_name(out, at, b"word");
     next = put_number(out, next, number as u64);
@@ -39,8 +39,8 @@ pub fn put_words(out: &mut [u8], at: usize, words: &[u32], count: usize) -> usiz
     next
 }
 
-// Puts the name and the numbers of one log or answer row, whose five numbers begin at `first`. The line goes on or ends
-// as the caller likes.
+// Puts the name and the numbers of one log or answer row, whose five numbers begin at `first` (R193, R194). The line
+// goes on or ends as the caller likes.
 pub fn put_row(out: &mut [u8], at: usize, name: &[u8], rows: &[u32], first: usize) -> usize {
     if rows.len() < 5 {
         return at;
@@ -73,7 +73,7 @@ fn put_rows(out: &mut [u8], at: usize, name: &[u8], rows: &[u32], count: usize) 
     next
 }
 
-// Puts the first line of a run: P, W, the number of rows and S, as the header has them.
+// Puts the first line of a run: P, W, the number of rows and S, as the header has them (R191).
 pub fn put_header(out: &mut [u8], at: usize, header: Header) -> usize {
     let mut next = put_name(out, at, b"run");
     next = put_number(out, next, header.processes as u64);
@@ -83,7 +83,7 @@ pub fn put_header(out: &mut [u8], at: usize, header: Header) -> usize {
     put(out, next, b'\n')
 }
 
-// Puts the one line of a refusal: its number and its place. A place lies in the file, so it has few digits.
+// Puts the one line of a refusal: its number and its place (R195). A place lies in the file, so it has few digits.
 pub fn put_refusal(out: &mut [u8], at: usize, number: u32, place: usize) -> usize {
     let mut next = put_name(out, at, b"refused");
     next = put_number(out, next, wide(number));

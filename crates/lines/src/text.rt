@@ -1,4 +1,4 @@
-// Text: bytes, names and decimal numbers, put into a buffer one after the other.
+// Text: bytes, names and decimal numbers, put into a buffer one after the other (R196).
 //
 // Each function takes the place where it begins and answers the place after what it put. Nothing is asked of the
 // caller: what has no room is left out.

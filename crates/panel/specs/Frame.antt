@@ -1,5 +1,4 @@
--- Change request 3: "the process not named left as it was unless the byte is F0"; "nothing is changed" by a refusal. What a key leaves alone, for
--- every file, every list of records and all buffers: by what a byte leaves alone in the machine.
+-- What a key leaves alone (R204, R206, R222), for every file, every list of records and all buffers: by what a byte leaves alone in the machine.
 use Prim.Native.Nat.{ℕ, _+_, _*_, _-_, _≤_, _<_}
 use mathlib.Core.Path.{_≡_, refl, sym, _∙_, ap, ap₂, subst}
 use mathlib.Core.Bool.{Bool, true, false}
@@ -57,20 +56,20 @@ turn-word rows p t words log r status j n =
 
 -- what a key that is carried out leaves alone
 pub record Frame (h : Header) (f : List ℕ) (l : Lent) (k : Stroke) (p : Pressed) : Type 0 where
-  -- "the process not named left as it was unless the byte is F0"; records beyond the first P are never touched
+  -- unless the byte is F0 only the process named may change; records beyond the first P never do (R204)
   pub others : (action (k .byte) ≡ crashesAll → ⊥) → (q : ℕ) → q ≢ named (k .byte) → getD (p .processes) q nobody ≡ getD (l .processes) q nobody
   pub past-P : drop (h .processes) (p .processes) ≡ drop (h .processes) (l .processes)
   pub all-records : length (p .processes) ≡ length (l .processes)
-  -- a word other than that of the row on which the process named works
+  -- a word other than that of the row on which the process named works (R206)
   pub other-words : (w : ℕ) → w ≢ rowNumbered (tableOf h f) (rowOpen (getD (l .processes) (named (k .byte)) nobody .opened)) .word → getD (p .words) w 0 ≡ getD (l .words) w 0
   pub all-words : length (p .words) ≡ length (l .words)
-  -- numbers beyond the rows, and the answers that were there
+  -- numbers behind the rows, and the answers that were there (R206)
   pub log-beyond : (i : ℕ) → k .log * 5 + 5 ≤ i → getD (p .log) i 0 ≡ getD (l .log) i 0
   pub all-log : length (p .log) ≡ length (l .log)
   pub answers-beyond : (i : ℕ) → k .answers * 5 + 5 ≤ i → getD (p .answers) i 0 ≡ getD (l .answers) i 0
   pub answers-before : (i : ℕ) → i < k .answers * 5 → getD (p .answers) i 0 ≡ getD (l .answers) i 0
   pub all-answers : length (p .answers) ≡ length (l .answers)
-  -- a crash or a wake: only records change
+  -- a crash or a wake: only records change (R134)
   pub only-steps : (action (k .byte) ≡ steps → ⊥) → (p .outcome ≡ Went (k .log) (k .answers)) × (p .words ≡ l .words) × (p .log ≡ l .log) × (p .answers ≡ l .answers)
 
 module _ (h : Header) (f : List ℕ) (records : List Process) (words log answers : List ℕ) (k : Stroke) where
@@ -196,7 +195,7 @@ module _ (h : Header) (f : List ℕ) (records : List Process) (words log answers
       only-steps = untouched;
     }
 
--- refused: "nothing is changed"; or carried out, on a file that is accepted
+-- refused, and all as it was (R222); or carried out, on a file that is accepted
 pub data Comes (f : List ℕ) (l : Lent) (k : Stroke) (p : Pressed) : Type 0 where
   refused : (why : Why) (place : ℕ) → p ≡ record { outcome = Refused why place; processes = l .processes; words = l .words; log = l .log; answers = l .answers } → Comes f l k p
   went : (h : Header) → fileRefusal f ≡ checked.Accepted h → (m a : ℕ) → p .outcome ≡ Went m a → Frame h f l k p → Comes f l k p

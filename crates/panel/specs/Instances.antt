@@ -1,5 +1,5 @@
--- The definitions of a key at records and keys, by computation: of each condition of 21 a record that meets it and one beside it that does not;
--- the order of the refusals; and bench case f, key after key.
+-- The definitions of a key at records and keys, by computation: of each condition of 21 a record that meets it and one beside it that does not
+-- (R231b to R231i); the order of the refusals (R220); and case f (R266), key after key.
 use Prim.Native.Nat.{ℕ, _+_, _*_, _^_}
 use mathlib.Core.Path.{_≡_, refl}
 use mathlib.Core.Bool.{true, false}
@@ -45,27 +45,27 @@ with begun opened stored status = record { status = status; opened = opened; sto
 abbrev at : Stage → Maybe → Status
 at stage answer = Busy stage 7 0 0 answer
 
--- one for each condition, in the request's order
+-- one or more for each condition, in the order of R231b to R231i
 abbrev meets : List Process
 meets =
-    with 3 Closed None Idle  -- more rows begun than its process has
-    ∷ with 2 (Open 0) None Down  -- an open row that is not the last it began
+    with 3 Closed None Idle  -- fewer rows than are begun (R231b)
+    ∷ with 2 (Open 0) None Down  -- another row open than the last one begun (R231c)
     ∷ with 0 (Open 0) None Down
-    ∷ with 1 (Open 0) None Idle  -- an open row while idle
-    ∷ with 1 (Open 0) None N2  -- or announcing
+    ∷ with 1 (Open 0) None Idle  -- a row open while idle (R231d)
+    ∷ with 1 (Open 0) None N2  -- at N2 or at N3 (R231d)
     ∷ with 1 (Open 0) None N3
-    ∷ with 1 Closed None (at A1 None)  -- none at a later stage
-    ∷ with 2 Closed None N2  -- announcing with no row left
+    ∷ with 1 Closed None (at A1 None)  -- no row open in the midst of work (R231e)
+    ∷ with 2 Closed None N2  -- no row to announce (R231f)
     ∷ with 2 Closed None N3
-    ∷ with 1 (Open 0) None (at A5 None)  -- no answer at A5, A6 or V5
+    ∷ with 1 (Open 0) None (at A5 None)  -- no answer where one is needed (R231g)
     ∷ with 1 (Open 0) (Is (Value 7)) (at A6 None)
     ∷ with 1 (Open 0) None (at V5 None)
-    ∷ with 1 (Open 0) None (at A2 None)  -- a stage that a read never has
+    ∷ with 1 (Open 0) None (at A2 None)  -- a stage that no read has (R231h)
     ∷ with 1 (Open 0) None (at V3 None)
-    ∷ with 1 (Open 0) None (at A5 (Is True))  -- an answer that a read never has
+    ∷ with 1 (Open 0) None (at A5 (Is True))  -- an answer that no read gives (R231i)
     ∷ with 1 (Open 0) (Is False) Down
-    ∷ with 1 (Open 0) (Is (Value (2 ^ width))) (at V5 None)  -- a value that no word can hold
-    ∷ with 2 (Open 1) None (at A5 (Is (Value 7)))  -- or a compare
+    ∷ with 1 (Open 0) (Is (Value (2 ^ width))) (at V5 None)  -- a number that is no value (R231i)
+    ∷ with 2 (Open 1) None (at A5 (Is (Value 7)))  -- and no compare (R231i)
     ∷ with 2 (Open 1) (Is (Value 7)) Down
     ∷ []
 
@@ -88,7 +88,7 @@ can-be =
     ∷ with 2 (Open 1) None (at V3 None)
     ∷ with 2 (Open 1) None (at A5 (Is True))
     ∷ with 2 (Open 1) (Is False) Down
-    ∷ with 1 Closed (Is (Value 7)) Down  -- an answer left over from a row that is closed
+    ∷ with 1 Closed (Is (Value 7)) Down  -- an answer left over from a row that is closed (R231i)
     ∷ []
 
 pub each-met : map (impossible rows 0) meets ≡ replicate 19 true
@@ -143,7 +143,7 @@ pub in-order :
 unfolding keyed pressed verdictOf judged fileRefusal headerIn u16At marked headSize wordSize rowSize newPlace numberAt rowAt badField sameFields badByte firstBadField firstRow firstLaterRow firstByte tableOf rowsFrom anyImpossible impossible misplaced misdone rowNumbered first count
 in-order = refl
 
--- bench case f, key after key: two rows in the log, the swap of process 1 and behind it the one that lost to it, and one answer
+-- case f (R266), key after key: two rows in the log, the swap of process 1 and behind it the one that lost to it, and one answer
 abbrev keys : List ℕ
 keys = 0 ∷ 0 ∷ 0 ∷ 0 ∷ 1 ∷ 1 ∷ 1 ∷ 1 ∷ 1 ∷ 1 ∷ 1 ∷ 0 ∷ 0 ∷ 0 ∷ 0 ∷ 0 ∷ []
 

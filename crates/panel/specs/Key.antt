@@ -1,4 +1,4 @@
--- What a key comes to over lent records.
+-- What a key comes to over lent records (R200 to R203).
 use Prim.Native.Nat.{ℕ}
 use mathlib.Core.List.{List}
 use lib.ListN.{length}

@@ -245,7 +245,7 @@ pub lives-begin : (rows : List Row) (P : ℕ) (words : List ℕ) (q : ℕ) → L
 unfolding begin procAt
 lives-begin rows P words q = rw (fresh-at P q) (lives-fresh rows q)
 
--- none of the conditions of 21
+-- none of the conditions of 21 (R231b to R231i)
 module _ (rows : List Row) (p : ℕ) (r : Process) (h : Lives rows p r) where
   last-begun : (o : Opened) → r .opened ≡ o → notLast (first rows p) (r .begun) o ≡ false
   last-begun Closed q = refl

@@ -1,4 +1,4 @@
--- No second outcome meets the contract of a key: the result, every record and every number of the three buffers are determined, on every input.
+-- No second outcome meets the contract of a key (R291): it is an equation for the result, for the list of records and for each buffer.
 use Prim.Native.Nat.{ℕ}
 use mathlib.Core.Path.{_≡_, sym, _∙_}
 use mathlib.Core.List.{List}

@@ -1,6 +1,4 @@
--- Which records the panel refuses under 21: change request 3, "one of the first P records with more rows begun than its process has, an open
--- row that is not the last it began, an open row while idle or announcing, none at a later stage, announcing with no row left, no answer at
--- A5, A6 or V5, or a stage or answer its row's kind never has". A definition for each; `first` is the process's first row, `count` how many it has.
+-- Which records the panel refuses under 21: a definition for each of R231b to R231i. `first` is the process's first row, `count` how many it has.
 use Prim.Native.Nat.{ℕ, zero, suc, _+_}
 use mathlib.Core.Bool.{Bool, true, false, not, _||_}
 use mathlib.Core.List.{List}
@@ -25,8 +23,8 @@ use Rattle.machine.specs.declared.Status.{Status}
 use Rattle.machine.specs.declared.Status.the-variants.{Down, Idle, N2, N3, Busy}
 use Rattle.machine.specs.Records.{nobody, rowOpen}
 
--- The stages and answers of each kind. A read goes from A1 to A5 and has no checkpoint, so that its recovery goes from V2 to V6; a compare
--- has every stage. A read answers with a value, a compare with false or true.
+-- The stages (R231h) and answers (R231i) of each kind. A read goes from A1 to A5 and has no checkpoint, so that its recovery goes from V2 to V6;
+-- a compare has every stage. A read answers with a value, a compare with false or true.
 abbrev pub readHas : Stage → Bool
 readHas A1 = true
 readHas A2 = false
@@ -72,16 +70,16 @@ abbrev pub isOpen : Opened → Bool
 isOpen Closed = false
 isOpen (Open k) = true
 
--- "more rows begun than its process has"
+-- there are fewer rows for the process than it has begun (R231b)
 abbrev pub tooMany : (count begun : ℕ) → Bool
 tooMany count begun = ltb count begun
 
--- "an open row that is not the last it began"
+-- the open row is another than the last one begun (R231c)
 abbrev pub notLast : (first begun : ℕ) → Opened → Bool
 notLast first begun Closed = false
 notLast first begun (Open k) = eqb begun 0 || not (eqb (k + 1) (first + begun))
 
--- "an open row while idle or announcing"
+-- a row is open where none can be: idle, at N2 or at N3 (R231d)
 abbrev pub openWhile : Opened → Status → Bool
 openWhile opened Down = false
 openWhile opened Idle = isOpen opened
@@ -89,7 +87,7 @@ openWhile opened N2 = isOpen opened
 openWhile opened N3 = isOpen opened
 openWhile opened (Busy stage seen readAt triedAt answer) = false
 
--- "none at a later stage"
+-- no row is open in the midst of work (R231e)
 abbrev pub noneAt : Opened → Status → Bool
 noneAt opened Down = false
 noneAt opened Idle = false
@@ -97,7 +95,7 @@ noneAt opened N2 = false
 noneAt opened N3 = false
 noneAt opened (Busy stage seen readAt triedAt answer) = not (isOpen opened)
 
--- "announcing with no row left"
+-- at N2 or N3 there is no row to announce (R231f)
 abbrev pub noneLeft : (count begun : ℕ) → Status → Bool
 noneLeft count begun Down = false
 noneLeft count begun Idle = false
@@ -105,7 +103,7 @@ noneLeft count begun N2 = leb count begun
 noneLeft count begun N3 = leb count begun
 noneLeft count begun (Busy stage seen readAt triedAt answer) = false
 
--- "no answer at A5, A6 or V5": A5 and A6 have the answer to store, V5 returns the stored one
+-- the stage needs an answer and there is none: A5 and A6 need the answer to store, V5 the stored one (R231g)
 abbrev pub missing : Stage → (answer stored : Maybe) → Bool
 missing A1 answer stored = false
 missing A2 answer stored = false
@@ -127,7 +125,7 @@ noAnswer stored N2 = false
 noAnswer stored N3 = false
 noAnswer stored (Busy stage seen readAt triedAt answer) = missing stage answer stored
 
--- "a stage or answer its row's kind never has": of the stage and the answer to store, and of the answer stored for the open row
+-- the kind of the open row has no such stage (R231h) or gives no such answer, to store or stored (R231i)
 abbrev pub wrongWork : Kind → Status → Bool
 wrongWork kind Down = false
 wrongWork kind Idle = false
@@ -147,7 +145,7 @@ misplaced first count r =
 unfoldable pub misdone : Kind → Process → Bool
 misdone kind r = noAnswer (r .stored) (r .status) || wrongKind kind (r .opened) (r .stored) (r .status)
 
--- process p's record
+-- process p's record cannot be (R231b to R231i)
 unfoldable pub impossible : List Row → ℕ → Process → Bool
 impossible rows p r = misplaced (first rows p) (count rows p) r || misdone (kindOf (rowNumbered rows (rowOpen (r .opened)))) r
 

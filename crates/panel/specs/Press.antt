@@ -1,6 +1,5 @@
--- One key of the panel: refused, or carried out. Change request 3: "the panel lends the run file too, and 1 to 12 come from it; then 13 also for
--- a list shorter than P; 14 and 15 mean no room for one more row; 21 ..; 22, a key byte that is no action. Places of 13 on are 0, and nothing
--- is changed."
+-- One key of the panel: refused, for the file, for what is lent, for the position and the records or for the byte (R220 to R232); or carried
+-- out as a byte of a run (R202).
 use Prim.Native.Nat.{ℕ, _+_, _*_, _≤_}
 use mathlib.Core.Path.{_≡_}
 use mathlib.Core.Bool.{false, cond}
@@ -30,13 +29,13 @@ use Rattle.panel.specs.declared.Outcome.{Outcome}
 use Rattle.panel.specs.declared.Outcome.the-variants.{Went, Refused}
 use Rattle.panel.specs.Possible.{anyImpossible}
 
--- the numbers of the request
+-- the numbers of a key's refusals (R220)
 abbrev pub numberOfWhy : Why → ℕ
 numberOfWhy (Run why) = numberOf why
 numberOfWhy Record = 21
 numberOfWhy Key = 22
 
--- what is lent: the records, and the three buffers
+-- what is lent: the records, and the three buffers (R201)
 pub record Lent : Type 0 where
   pub processes : List Process
   pub words : List ℕ
@@ -46,7 +45,7 @@ pub record Lent : Type 0 where
 abbrev pub lent : List Process → (words log answers : List ℕ) → Lent
 lent processes words log answers = record { processes = processes; words = words; log = log; answers = answers }
 
--- 13 to 15, for a file that is accepted: "a list shorter than P", "no room for one more row"
+-- 13 to 15, for a file that is accepted: enough words, enough records (R223), and room for one row (R224, R225)
 abbrev pub roomy : Header → (held : ℕ) → Room → Stroke → Verdict
 roomy h held room k =
     cond (ltb (room .words) (h .words)) (Not (Run WordsRoom) 0)
@@ -54,7 +53,7 @@ roomy h held room k =
     (cond (ltb (room .log) (k .log * 5 + 5)) (Not (Run LogRoom) 0)
     (cond (ltb (room .answers) (k .answers * 5 + 5)) (Not (Run AnswersRoom) 0) (Fine h))))
 
--- then 21 and 22
+-- then 21 (R231) and 22 (R232)
 abbrev pub sound : Header → List ℕ → List Process → Stroke → Verdict
 sound h f processes k =
     cond (ltb 1023 (k .position)) (Not Record 0)
@@ -72,11 +71,11 @@ abbrev pub judgedAs : Checked → List ℕ → Table → Room → Stroke → Ver
 judgedAs (checked.Refused why place) f t room k = Not (Run why) place
 judgedAs (checked.Accepted h) f t room k = judged h f t room k
 
--- "1 to 12 come from" the file
+-- the file's own refusals, 1 to 12, go first (R220, R221)
 unfoldable pub verdictOf : List ℕ → Table → Room → Stroke → Verdict
 verdictOf f t room k = judgedAs (fileRefusal f) f t room k
 
--- the state that is lent: the first P records, the words, and the rows that the counts give; and the state after the byte
+-- the state that is lent: the first P records, the words, and the rows that the counts give; and the state after the byte (R202)
 unfoldable pub stateOf : ℕ → Lent → Stroke → State
 stateOf P l k = record { words = l .words; processes = take P (l .processes); log = rowsOf (k .log) (l .log); answers = rowsOf (k .answers) (l .answers) }
 
@@ -91,7 +90,7 @@ pub record Pressed : Type 0 where
   pub log : List ℕ
   pub answers : List ℕ
 
--- carried out: the state is put back. Records beyond the first P are never touched, and numbers beyond the rows stay as they were
+-- carried out: the state is put back. Records beyond the first P (R204) and numbers behind the rows (R206) are as they were
 abbrev pub carried : Header → List ℕ → Lent → Stroke → Pressed
 carried h f l k =
     let s = stepped h f l k in
@@ -103,7 +102,7 @@ carried h f l k =
       answers = infront (flat (s .answers)) (l .answers);
     }
 
--- refused: "nothing is changed"
+-- refused: all that was lent is as it was (R222)
 abbrev pub pressedAs : Verdict → List ℕ → Lent → Stroke → Pressed
 pressedAs (Not why place) f l k = record { outcome = Refused why place; processes = l .processes; words = l .words; log = l .log; answers = l .answers }
 pressedAs (Fine h) f l k = carried h f l k

@@ -1,6 +1,6 @@
--- Change request 3: "Stepping through a whole accepted schedule, from the file's words and all idle, ends exactly as the run does." With the counts
--- handed from key to key no key is refused, and after each one the records, the words and the rows are those of the run after as many bytes.
--- By going through the schedule: what the buffers hold is the machine's state, and a key makes of it what a byte does.
+-- An accepted schedule, pressed key after key, comes to what a run comes to (R208). With the counts handed from key to key no key is refused, and
+-- after each one the records, the words and the rows are those of the run after as many bytes. By going through the schedule: what the buffers
+-- hold is the machine's state, and a key makes of it what a byte does.
 use Prim.Native.Nat.{ℕ, zero, suc, _+_, _*_, _≤_, _<_}
 use mathlib.Core.Path.{_≡_, refl, sym, _∙_, ap, subst}
 use mathlib.Core.Bool.{Bool, true, false}
@@ -48,7 +48,7 @@ unfoldable pub stepping : List ℕ → ℕ → List ℕ → Pressed → Pressed
 stepping f t [] p = p
 stepping f t (byte ∷ bytes) p = stepping f (suc t) bytes (keyAfter f t byte p (p .outcome))
 
--- before the first key: no rows
+-- before the first key: no rows (R208)
 abbrev pub ready : List Process → (words log answers : List ℕ) → Pressed
 ready records words log answers = record { outcome = Went 0 0; processes = records; words = words; log = log; answers = answers }
 
@@ -210,7 +210,7 @@ module _ (f words log answers : List ℕ) (h : Header) (fine : refusalOf f (room
   }
 
   module _ (idle : take P records ≡ replicate P fresh) where
-    -- "from the file's words and all idle"
+    -- the start: all idle (R86), over a words buffer that begins with the file's words
     abbrev start : Pressed
     start = ready records (infront (wordsOf h f) words) log answers
 
@@ -232,7 +232,7 @@ module _ (f words log answers : List ℕ) (h : Header) (fine : refusalOf f (room
     unfolding endOf
     ends = subst (λ bytes. stepping f 0 bytes start ≡ held (after rows 0 bytes (begin P (wordsOf h f)))) (take-all (h .steps) (scheduleIn h f) (let e = l .schedule in omega arith)) (keys-are (h .steps) (omega arith))
 
-    -- whatever `run` returned and left, over the same file and buffers as long: the counts, the words, the log and the answers are the stepping's
+    -- whatever `run` returned and left, over the same file and buffers as long: the counts, the words, the log and the answers are the stepping's (R208)
     pub ends-as-run : (r : RunOutcome) (words′ log′ answers′ : List ℕ) → Ends f words log answers r words′ log′ answers′
         → (m : ℕ) × ((k : ℕ) × ((r ≡ Ran m k) × Leaves (stepping f 0 (scheduleIn h f) start) (Went m k) (endOf h f .processes ++ drop P records) words′ log′ answers′))
     ends-as-run r words′ log′ answers′ e = (length (endOf h f .log), (length (endOf h f .answers), (run-is .result, rw ends run-leaves)))

@@ -1,4 +1,4 @@
-// Whether a key is carried out: refusals 13 to 22, for a file that is accepted; and before them the file's own.
+// Whether a key is carried out: refusals 13 to 22, for a file that is accepted; and before them the file's own (R220).
 use super::Stroke;
 use super::Table;
 use super::Verdict;
@@ -25,7 +25,7 @@ ghost use Rattle.machine.specs.Records.{rowOpen};
 ghost use Rattle.panel.specs.Possible as possible;
 ghost use Rattle.panel.specs.Press as press;
 
-// Whether a record cannot be, whose process has `count` rows from row `first` on.
+// Whether a record cannot be, whose process has `count` rows from row `first` on (R231b to R231i).
 fn is_impossible(
     table: &[u8],
     stride: usize,
@@ -42,7 +42,7 @@ fn is_impossible(
     }
     let opened = process.opened;
     match opened {
-        // With no row open no kind is asked for.
+        // With no row open no kind is asked for (R231i).
         Opened::Closed => misdone(Kind::Read, process),
         Opened::Open(k) => {
             let row = runfile::row_at(table, stride, runfile::index16(k));
@@ -75,7 +75,7 @@ fn any_impossible(
     false
 }
 
-// 13 to 15: the words, the records, and room for one row more of each kind.
+// 13 to 15: the words, the records, and room for one row more of each kind (R223 to R225).
 fn room_verdict(header: Header, held: usize, room: Room, key: Stroke) -> Verdict
     ensures { λ r. ⌜ r ≡ press.roomy header held room key ⌝ }
 {
@@ -94,7 +94,7 @@ fn room_verdict(header: Header, held: usize, room: Room, key: Stroke) -> Verdict
     Verdict::Fine(header)
 }
 
-// 21 and 22: the position, the records and the byte.
+// 21 and 22: the position, the records and the byte (R231, R232).
 fn sound_verdict(file: &[u8], header: Header, processes: [Process; 16], key: Stroke) -> Verdict
     requires { ⌜ Lawful header (now file) ample ⌝ }
     ensures { λ r. ⌜ r ≡ press.sound header (now (file .entry)) processes key ⌝ }

@@ -1,4 +1,4 @@
-// The bench panel: one key, that is one byte of a schedule, over records that the caller keeps in a list of its own.
+// The bench panel: one byte of a schedule at a time, over records that the caller keeps (R200 to R208).
 //
 // The work is done by `press`, on a table of sixteen records by value. `key` is thin: it takes the lent records into
 // such a table, presses the key, and gives the records back.
@@ -17,7 +17,7 @@ ghost use Rattle.panel.specs.Press.{numberOfWhy};
 ghost use Rattle.panel.specs.Promises.{Keyed};
 ghost use mathlib.Core.Path.{_≡_};
 
-// A key as it is struck: the byte, its position, and how many rows stand in the log and in the answers.
+// A key as it is struck: the byte, its position, and how many rows stand in the log and in the answers (R201).
 pub struct Stroke {
     pub byte: u8,
     pub position: usize,
@@ -27,16 +27,16 @@ pub struct Stroke {
 
 // Why a key is refused.
 pub enum Why {
-    // One that a run has too, 1 to 15: 1 to 12 come from the file. `WordsRoom` is also a list of records that is too short,
-    // and `LogRoom` and `AnswersRoom` mean no room for one more row.
+    // One that a run has too: 1 to 12 are the file's (R221). `WordsRoom` is also a list of records that is too short (R223),
+    // and `LogRoom` and `AnswersRoom` say that one row more does not fit (R224, R225).
     Run(runfile::Refusal),
-    // The position, or a record, cannot be.
+    // The position, or a record, cannot be (R231).
     Record,
-    // The byte is no action.
+    // The byte is no action (R232).
     Key,
 }
 
-// What a key comes to: refused, with the place in the file; or done, with the two row counts after it.
+// What a key comes to: refused, with the place in the file; or done, with the two row counts after it (R203).
 pub enum Outcome {
     Went { log: usize, answers: usize },
     Refused(Why, usize),
@@ -60,7 +60,7 @@ pub struct After {
     pub outcome: Outcome,
 }
 
-// The number that the request gives a refusal.
+// The number of a refusal (R220).
 pub fn why_number(why: Why) -> u32
     ensures { λ r. ⌜ r ≡ numberOfWhy why ⌝ }
 {
@@ -87,7 +87,7 @@ fn table_of(processes: [Process; 16], held: usize) -> Table
     Table { processes, held }
 }
 
-// One key over the lent records: of more than sixteen only the first sixteen are looked at.
+// One key over the lent records: of more than sixteen only the first sixteen are looked at (R205, R306).
 pub fn key(
     file: &[u8],
     records: &mut [Process],

@@ -1,4 +1,4 @@
-// Which records the panel refuses under 21, condition by condition; specs/Possible has the request's words.
+// Which records the panel refuses under 21, condition by condition (R231b to R231i), as specs/Possible has them.
 use machine::Answer;
 use machine::Maybe;
 use machine::Opened;
@@ -10,7 +10,7 @@ ghost use mathlib.Core.Path.{_≡_};
 ghost use Prim.Native.Nat.{_+_, _<_};
 ghost use Rattle.panel.specs.Possible as possible;
 
-// The stages of a read.
+// The stages of a read (R231h).
 fn read_has(stage: Stage) -> bool
     ensures { λ r. ⌜ r ≡ possible.readHas stage ⌝ }
 {
@@ -39,7 +39,7 @@ fn has_stage(kind: Kind, stage: Stage) -> bool
     }
 }
 
-// The answers of a read, which are what a word can hold, and those of a compare.
+// The answers of a read, which are what a word can hold, and those of a compare (R231i).
 fn read_says(answer: Answer) -> bool
     ensures { λ r. ⌜ r ≡ possible.readSays answer ⌝ }
 {
@@ -90,7 +90,7 @@ fn is_open(opened: Opened) -> bool
     }
 }
 
-// "An open row that is not the last it began". The sums are taken wide, since a lent record may hold any numbers.
+// The open row is another than the last one begun (R231c). The sums are taken wide, since a lent record may hold any numbers.
 fn not_last(first: u16, begun: u16, opened: Opened) -> bool
     ensures { λ r. ⌜ r ≡ possible.notLast first begun opened ⌝ }
 {
@@ -105,7 +105,7 @@ fn not_last(first: u16, begun: u16, opened: Opened) -> bool
     }
 }
 
-// "An open row while idle or announcing".
+// A row is open where none can be: idle, at N2 or at N3 (R231d).
 fn open_while(opened: Opened, status: Status) -> bool
     ensures { λ r. ⌜ r ≡ possible.openWhile opened status ⌝ }
 {
@@ -124,7 +124,7 @@ fn open_while(opened: Opened, status: Status) -> bool
     }
 }
 
-// "None at a later stage".
+// No row is open in the midst of work (R231e).
 fn none_at(opened: Opened, status: Status) -> bool
     ensures { λ r. ⌜ r ≡ possible.noneAt opened status ⌝ }
 {
@@ -143,7 +143,7 @@ fn none_at(opened: Opened, status: Status) -> bool
     }
 }
 
-// "Announcing with no row left".
+// At N2 or N3 there is no row to announce (R231f).
 fn none_left(count: u16, begun: u16, status: Status) -> bool
     ensures { λ r. ⌜ r ≡ possible.noneLeft count begun status ⌝ }
 {
@@ -162,7 +162,7 @@ fn none_left(count: u16, begun: u16, status: Status) -> bool
     }
 }
 
-// "No answer at A5, A6 or V5".
+// The stage needs an answer and there is none (R231g).
 fn missing(stage: Stage, answer: Maybe, stored: Maybe) -> bool
     ensures { λ r. ⌜ r ≡ possible.missing stage answer stored ⌝ }
 {
@@ -200,7 +200,7 @@ fn no_answer(stored: Maybe, status: Status) -> bool
     }
 }
 
-// "A stage or answer its row's kind never has": the stage, and the answer to store.
+// The kind of the row has no such stage (R231h), or gives no such answer to store (R231i).
 fn wrong_work(kind: Kind, status: Status) -> bool
     ensures { λ r. ⌜ r ≡ possible.wrongWork kind status ⌝ }
 {
@@ -224,7 +224,7 @@ fn wrong_work(kind: Kind, status: Status) -> bool
     }
 }
 
-// The same, with the answer that is stored for the open row.
+// The same, with the answer that is stored for the open row (R231i).
 fn wrong_kind(kind: Kind, opened: Opened, stored: Maybe, status: Status) -> bool
     ensures { λ r. ⌜ r ≡ possible.wrongKind kind opened stored status ⌝ }
 {

@@ -1,4 +1,4 @@
-// One key over a table of sixteen records by value: judged, and run as a schedule of one byte.
+// One key over a table of sixteen records by value: judged (R220), and run as a schedule of one byte (R202).
 use super::After;
 use super::Outcome;
 use super::Stroke;

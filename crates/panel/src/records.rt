@@ -9,7 +9,7 @@ ghost use lib.ListN.{length, set, getD};
 ghost use Rattle.machine.specs.Records.{nobody};
 ghost use Rattle.panel.specs.Laid.{blank, laid};
 
-// How many of the lent records are looked at.
+// How many of the lent records are looked at (R205).
 pub fn held(length: usize) -> usize
     ensures { λ r. ⌜ (r ≡ min length 16) × (r ≤ 16) × (r ≤ length) ⌝ }
 {

@@ -1,6 +1,5 @@
--- What a log says, carried out in order on plain values that are read, or compared and swapped, at one stroke; and the lost swap: from the
--- time of the reading to the first later swap on the word nothing changes it, so that swap found the old value and left another. No process, no
--- stage and no flip bit comes into it.
+-- What a log says, carried out in order on plain values (R245); and the lost swap (R167): from the time of the reading to the first later swap on
+-- the word nothing changes it, so that swap found the old value and left another. No process, no stage and no flip bit comes into it.
 use Prim.Native.Nat.{ℕ, zero, suc, _^_, _≤_, _<_}
 use mathlib.Core.Path.{_≡_, refl, sym, _∙_, ap, ap₂, subst}
 use mathlib.Core.Bool.{Bool, true, false, cond, _&&_, true≢false}

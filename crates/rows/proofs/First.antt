@@ -1,4 +1,4 @@
--- The search for the front-most swap, in the loop's own terms: before turn i the search from row i on is the whole search.
+-- The search for the first swap from the front (R168), in the loop's own terms: before turn i the search from row i on is the whole search.
 use mathlib.Core.Path.{_≡_, sym, _∙_}
 use mathlib.Core.List.{List, _∷_}
 use mathlib.Core.Bool.{Bool, true, false}

@@ -1,4 +1,4 @@
--- The search for the place, row by row: a last row more is the new last of equal or smaller position, or changes nothing.
+-- The search for the place (R170), row by row: one row more at the end is small enough, and the place is behind it, or changes nothing.
 use mathlib.Core.Path.{_≡_, refl}
 use mathlib.Core.List.{List, [], _∷_, _++_}
 use mathlib.Core.Bool.{Bool, true, false, cond}

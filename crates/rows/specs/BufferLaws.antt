@@ -89,7 +89,7 @@ module _ (ns xs : List ℕ) where
   apart : (k : ℕ) → length ns ≤ k → k ≡ length ns + (k - length ns)
   apart k h = omega arith
 
-  -- "All numbers beyond stay as they were."
+  -- what is behind stays (R184)
   pub drop-infront : (k : ℕ) → length ns ≤ k → drop k (infront ns xs) ≡ drop k xs
   unfolding infront
   drop-infront k h = rw (apart k h) (drop-append-add ns (drop (length ns) xs) (k - length ns) ∙ drop-drop (k - length ns) (length ns) xs)

@@ -1,11 +1,10 @@
--- Rows in a lent buffer of numbers: document 01, "Three buffers, lent as 32-bit numbers". A run "writes the log and answer rows from the front.
--- All numbers beyond stay as they were."
+-- Rows in a lent buffer of numbers (R180): they stand in it from the front (R183), and the numbers behind them are as they were (R184).
 use Prim.Native.Nat.{ℕ, zero, suc, _+_, _*_}
 use mathlib.Core.List.{List, [], _∷_, _++_}
 use lib.ListN.{take, drop, getD, length}
 use Rattle.rows.specs.declared.Entry.{Entry}
 
--- "rows of five numbers: position, process, row number, verdict, value"; and the numbers of many rows, one after the other
+-- the five numbers of a row, in their order (R160); and the numbers of many rows, one after the other (R183)
 unfoldable pub five : Entry → List ℕ
 five e = e .position ∷ e .process ∷ e .row ∷ e .verdict ∷ e .value ∷ []
 
@@ -22,7 +21,7 @@ abbrev pub rowsOf : ℕ → List ℕ → List Entry
 rowsOf zero xs = []
 rowsOf (suc n) xs = rowsOf n xs ++ (entryAt xs (n * 5) ∷ [])
 
--- written: a buffer with these numbers in front, and behind them what stood there
+-- written: a buffer with these numbers in front, and behind them what stood there (R184)
 unfoldable pub infront : List ℕ → List ℕ → List ℕ
 infront ns xs = ns ++ drop (length ns) xs
 
@@ -30,6 +29,6 @@ infront ns xs = ns ++ drop (length ns) xs
 unfoldable pub placed : ℕ → List ℕ → List ℕ → List ℕ
 placed at ns xs = take at xs ++ (ns ++ drop (at + length ns) xs)
 
--- "move up by one row": the first five numbers as they were, then the first n numbers, then what stood behind them
+-- n numbers moved up by one row (R171): the first five as they were, then the first n, then what stood behind them
 unfoldable pub shifted : ℕ → List ℕ → List ℕ
 shifted n xs = take 5 xs ++ (take n xs ++ drop (n + 5) xs)

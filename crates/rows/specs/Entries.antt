@@ -1,5 +1,4 @@
--- A row of the log or of the answers, and what it says: document 01, "Log and answers".
--- "Both have rows of five numbers: position, process, row number, verdict, value." An `Entry` is such a row, with any five numbers.
+-- A row of the log or of the answers, and what it says (R160, R161). An `Entry` is such a row, with any five numbers.
 use Prim.Native.Nat.{ℕ}
 use mathlib.Core.Bool.{Bool}
 use lib.Dec.{eqb}
@@ -13,6 +12,6 @@ pub record Said : Type 0 where
 abbrev pub said : Entry → Said
 said e = record { verdict = e .verdict; value = e .value }
 
--- "Verdicts: 0 false, 1 true": a successful swap is told of, which is 1 and no other verdict
+-- the row tells of a successful swap: its verdict is 1, which no other answer has (R161)
 unfoldable pub isSwapped : Said → Bool
 isSwapped d = eqb (d .verdict) 1

@@ -17,7 +17,7 @@ use Rattle.rows.specs.Log.{onePast, place, insert, isSwap, firstSwap}
 abbrev pub row : List Entry → ℕ → Entry
 row log k = getD log k record { position = 0; process = 0; row = 0; verdict = 0; value = 0 }
 
--- "directly behind the last row of equal or smaller position, or to the front if there is none": place n, for position q
+-- n is the place of a new row of position q: the row in front of it is of equal or smaller position, and all rows from n on are of larger (R170)
 pub record Behind (q : ℕ) (log : List Entry) (n : ℕ) : Type 0 where
   pub within : n ≤ length log
   pub last : (k : ℕ) → n ≡ suc k → row log k .position ≤ q
@@ -97,7 +97,7 @@ module _ (e : Entry) (log : List Entry) where
       ∙ getD-append-add (take at log) (e ∷ drop at log) (suc j) _
       ∙ getD-drop at log j _
 
-  -- "rows from that place to the end move up by one row"
+  -- rows at the place and behind it stand one row later (R171)
   pub insert-behind : (k : ℕ) → at ≤ k → row (insert e log) (suc k) ≡ row log k
   insert-behind k h =
       let up : suc k ≡ at + suc (k - at) = omega arith in
@@ -105,7 +105,7 @@ module _ (e : Entry) (log : List Entry) where
       ap (row (insert e log)) up ∙ past (k - at) ∙ ap (row log) same
 
 module _ (rows : List Row) (w a none : ℕ) where
-  -- "the front-most log row of a successful swap whose position is larger than its A1's and whose row number names a row on the same word"
+  -- the swap that is found is the first from the front (R168)
   pub first-swap : (log : List Entry) (k : ℕ) → k < length log → isSwap rows w a (row log k) ≡ true
       → ((j : ℕ) → j < k → isSwap rows w a (row log j) ≡ false) → firstSwap rows w a none log ≡ row log k .position
   unfolding firstSwap

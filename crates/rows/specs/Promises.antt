@@ -12,7 +12,7 @@ use Rattle.rows.specs.declared.Sought.{Sought}
 use Rattle.rows.specs.Log.{place, insert, firstSwap}
 use Rattle.rows.specs.Buffers.{flat, rowsOf, infront}
 
--- `place_of(log, rows, position)`; that the place is within the rows follows, and is there for the caller's arithmetic
+-- `place_of(log, rows, position)` (R170); that the place is within the rows follows, and is there for the caller's arithmetic
 pub record Places (log : List ℕ) (rows position r : ℕ) : Type 0 where
   pub result : r ≡ place position (rowsOf rows log)
   pub within : r ≤ rows
@@ -26,11 +26,11 @@ pub record Searched (stride : ℕ) (table : List ℕ) (operations : ℕ) (log : 
 abbrev pub FirstSwapped : (stride : ℕ) (table : List ℕ) (operations : ℕ) (log : List ℕ) (rows : ℕ) (sought : Sought) (r : ℕ) → Type 0
 FirstSwapped stride table operations log rows sought r = r ≡ firstSwap (rowsFrom stride table 0 operations) (sought .word) (sought .after) (sought .none) (rowsOf rows log)
 
--- `insert_row(log, rows, entry)`: the log before, and after
+-- `insert_row(log, rows, entry)`: the log before, and after (R171)
 abbrev pub Inserted : (log : List ℕ) (rows : ℕ) (e : Entry) (log′ : List ℕ) → Type 0
 Inserted log rows e log′ = log′ ≡ infront (flat (insert e (rowsOf rows log))) log
 
--- `add_answer(answers, rows, entry)`
+-- `add_answer(answers, rows, entry)` (R163)
 abbrev pub Added : (answers : List ℕ) (rows : ℕ) (e : Entry) (answers′ : List ℕ) → Type 0
 Added answers rows e answers′ = answers′ ≡ infront (flat (rowsOf rows answers ++ (e ∷ []))) answers
 

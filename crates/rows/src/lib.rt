@@ -1,4 +1,4 @@
-// The log and the answers: lent buffers of numbers that hold rows of five, from the front.
+// The log and the answers: lent buffers of numbers that hold rows of five, from the front (R160, R183).
 //
 // How many rows a buffer holds is the caller's to know, and comes as a number. What stands behind the rows,
 // the new one included, is neither read nor changed.
@@ -22,8 +22,8 @@ pub struct Entry {
     pub value: u32,
 }
 
-// What a lost swap looks for in the log: a successful swap on its word after this position, that of its A1. Where there
-// is none, `none` is taken for the swap's position.
+// What a lost swap looks for in the log: a successful swap on its word after this position, that of its A1 (R168). Where there
+// is none, `none` is taken for the swap's position (R169).
 pub struct Sought {
     pub word: u8,
     pub after: u32,
@@ -42,7 +42,7 @@ fn write_row(buffer: &mut [u32], at: usize, entry: Entry)
     buffer[at + 4] = entry.value;
 }
 
-// Adds a row behind the first `rows` rows: answers stand in the order in which they were given.
+// Adds a row behind the first `rows` rows: answers stand in the order in which they were given (R163).
 pub fn add_answer(answers: &mut [u32], rows: usize, entry: Entry)
     requires { ⌜ rows * 5 + 5 ≤ length (now answers) ⌝ }
     ensures { λ _. ⌜ Added (now (answers .entry)) rows entry (now (answers .exit)) ⌝ }

@@ -1,5 +1,5 @@
-// The log, in the order in which operations took effect: where a new row goes, how it is put there, and the
-// successful swap that a lost one looks for.
+// The log, by position: where a new row goes (R170), how it is put there (R171), and the successful swap that a lost
+// one looks for (R168).
 use super::Entry;
 use super::Sought;
 use super::write_row;
@@ -11,9 +11,8 @@ ghost use Rattle.rows.specs.Log.{isSwap};
 ghost use Rattle.rows.specs.Buffers.{entryAt, shifted};
 ghost use Rattle.rows.specs.Promises.{Places, Searched, FirstSwapped, Inserted};
 
-// The place of a new row among the first `rows` rows: one past the last of equal or smaller position, 0 if
-// there is none. Nearly every row belongs at the end, so the search begins with the last row; the rows behind
-// the first that it finds are all of larger position, whatever the order of the log.
+// The place of a new row among the first `rows` rows (R170). It is looked for from the last row on, since nearly every
+// row goes to the end (R172); the rows behind the first that it finds are all of larger position, whatever the order.
 pub fn place_of(log: &[u32], rows: usize, position: u32) -> usize
     requires { ⌜ rows * 5 ≤ length (now log) ⌝ }
     ensures { λ r. ⌜ Places (now (log .entry)) rows position r ⌝ }
@@ -29,7 +28,7 @@ pub fn place_of(log: &[u32], rows: usize, position: u32) -> usize
     0
 }
 
-// Moves the first `count` numbers of a part of the log up by one row, from the last to the first, so that none
+// Moves the first `count` numbers of a part of the log up by one row (R171), from the last to the first, so that none
 // is overwritten before it is moved. The first five numbers stay until a row is written over them.
 fn shift_rows(part: &mut [u32], count: usize)
     requires { ⌜ count + 5 ≤ length (now part) ⌝ }
@@ -42,8 +41,7 @@ fn shift_rows(part: &mut [u32], count: usize)
     }
 }
 
-// Puts a row into the log, directly behind the last row of equal or smaller position. Only the part from that
-// place on is lent to be moved.
+// Puts a row into the log at its place (R170, R171). Only the part from that place on is lent to be moved (R303).
 pub fn insert_row(log: &mut [u32], rows: usize, entry: Entry)
     requires { ⌜ rows * 5 + 5 ≤ length (now log) ⌝ }
     ensures { λ _. ⌜ Inserted (now (log .entry)) rows entry (now (log .exit)) ⌝ }
@@ -55,8 +53,8 @@ pub fn insert_row(log: &mut [u32], rows: usize, entry: Entry)
     write_row(log, at, entry);
 }
 
-// Whether row i of the log is such a swap as is sought. The table is the part of the file
-// with its rows, so many bytes from one to the next; a row number past it names no row.
+// Whether row i of the log is such a swap as is sought (R168). The table is the part of the file with its rows, so
+// many bytes from one to the next; a row number past it names no row.
 fn is_swap_after(
     table: &[u8],
     stride: usize,
@@ -82,7 +80,7 @@ fn is_swap_after(
     runfile::word_of_row(table, stride, row) == sought.word
 }
 
-// The position of the front-most of the first `rows` rows that is such a swap as is sought.
+// The position of the first of the first `rows` rows that is such a swap as is sought (R168).
 pub fn first_swap_after(
     table: &[u8],
     stride: usize,

@@ -1,4 +1,4 @@
--- No second outcome meets the contract of a run: the result and every number of the three buffers are determined, on every input.
+-- No second outcome meets the contract of a run (R291): it is an equation for the result and for each of the three buffers.
 use Prim.Native.Nat.{ℕ}
 use mathlib.Core.Path.{_≡_, sym, _∙_}
 use mathlib.Core.List.{List}

@@ -15,7 +15,7 @@ use Rattle.machine.specs.Machine.{State, begin, after}
 use Rattle.run.specs.declared.Outcome.{Outcome}
 use Rattle.run.specs.declared.Outcome.the-variants as outcome
 
--- the state at the end of the file's schedule
+-- the state at the end of the file's schedule (R181, R241)
 unfoldable pub endOf : Header → List ℕ → State
 endOf h f = after (tableOf h f) 0 (scheduleIn h f) (begin (h .processes) (wordsOf h f))
 
@@ -23,8 +23,8 @@ endOf h f = after (tableOf h f) 0 (scheduleIn h f) (begin (h .processes) (wordsO
 abbrev pub roomOf : List ℕ → List ℕ → List ℕ → Room
 roomOf words log answers = record { words = length words; log = length log; answers = length answers }
 
--- the result; and a buffer afterwards: "A run writes the final words into the first W numbers, and writes the log and answer rows
--- from the front. All numbers beyond stay as they were." A refusal leaves it untouched
+-- the result (R185); and each buffer afterwards: the final words (R182) or the rows (R183) in front, and behind them what stood there (R184).
+-- A refusal leaves it untouched (R34)
 abbrev pub outcomeOf : Checked → List ℕ → Outcome
 outcomeOf (checked.Refused why place) f = outcome.Refused why place
 outcomeOf (checked.Accepted h) f = outcome.Ran (length (endOf h f .log)) (length (endOf h f .answers))
@@ -47,6 +47,6 @@ pub record EndsAs (c : Checked) (f words log answers : List ℕ) (r : Outcome) (
   pub log-is : log′ ≡ logLeft c f log
   pub answers-are : answers′ ≡ answersLeft c f answers
 
--- what `run` gives: its result, and every number of the three buffers, on every input
+-- the contract of `run`: result and buffers, all of them, for any bytes and any lengths (R241, R290)
 abbrev pub Ends : List ℕ → List ℕ → List ℕ → List ℕ → Outcome → List ℕ → List ℕ → List ℕ → Type 0
 Ends f words log answers = EndsAs (refusalOf f (roomOf words log answers)) f words log answers

@@ -1,4 +1,4 @@
-// The whole: a run file is refused, and nothing is touched, or it is run.
+// The whole: a run file is refused, and nothing is touched (R34), or it is run (R241).
 mod load;
 
 use engine::Part;
@@ -15,7 +15,7 @@ ghost use lib.ListN.{length};
 ghost use Rattle.engine.specs.Part.{Holds};
 ghost use Rattle.run.specs.Run.{endOf, roomOf, Ends, EndsAs};
 
-// Refused, with the refusal and its place; or run, with the two row counts.
+// Refused, with the refusal and its place; or run, with the two row counts (R185).
 pub enum Outcome {
     Refused(Refusal, usize),
     Ran { log: usize, answers: usize },
@@ -27,8 +27,8 @@ pub struct Counts {
     pub answers: usize,
 }
 
-// Runs a file that is not refused over as many words as it has: the start words are loaded, and the schedule,
-// the part of the file that begins after the last row, runs over them from position 0 on, with all idle.
+// Runs a file that is not refused over as many words as it has: the start words are loaded, and the schedule, lent on
+// as the tail of the file (R304), runs over them from position 0 on, with all idle (R181).
 fn run_words(
     file: &[u8],
     header: Header,
@@ -72,7 +72,7 @@ fn run_words(
     }
 }
 
-// Runs a file that is not refused: only the first W numbers of the words buffer are lent on.
+// Runs a file that is not refused: only the first W numbers of the words buffer are lent on (R182).
 fn run_accepted(
     file: &[u8],
     header: Header,
@@ -92,7 +92,7 @@ fn run_accepted(
     }
 }
 
-// Runs a run file over the three lent buffers, or refuses it and leaves them untouched. Nothing is asked of
+// Runs a run file over the three lent buffers (R180), or refuses it and leaves them untouched (R34). Nothing is asked of
 // the caller.
 pub fn run(file: &[u8], words: &mut [u32], log: &mut [u32], answers: &mut [u32]) -> Outcome
     ensures { λ r. ⌜ Ends (now (file .entry)) (now (words .entry)) (now (log .entry)) (now (answers .entry)) r (now (words .exit)) (now (log .exit)) (now (answers .exit)) ⌝ }

@@ -1,5 +1,5 @@
 -- A file that is longer than the longest is decided by its first 5,196 bytes: refusals 1 to 7 look at the header, and then the length is
--- wrong for both. So a program may read 5,196 bytes and answer as the whole file would be.
+-- wrong for both (R35). So a program may read 5,196 bytes and answer as the whole file would be.
 use Prim.Native.Nat.{ℕ, _+_, _<_}
 use mathlib.Core.Path.{_≡_, refl, sym, _∙_}
 use mathlib.Core.Bool.{Bool, true, false}

@@ -1,4 +1,4 @@
--- Each refusal is given exactly when the table says: `exactly`. The tests of Refusals.antt say what the propositions of Table.antt
+-- Each refusal is given exactly when the table says (R240): `exactly`. The tests of Refusals.antt say what the propositions of Table.antt
 -- say (`tells-..`); a search finds what is first (`first-iff`, and for 9, a search in a search,
 -- `field-found` and `found-field`); and the checks go in the order of their list.
 use Prim.Native.Nat.{ℕ, zero, suc, _+_, _*_, _-_, _/_, _%_, _≤_, _<_}
@@ -120,7 +120,7 @@ tells-new : (kind : Kind) → Tells (zeroNew kind) (ZeroNew kind)
 tells-new Read = always
 tells-new Compare = never
 
--- "a read whose old or new is not 0": one of the two
+-- old or new, where the kind must have 0 there (R49e, R49f)
 tells-number : (must : Bool) (Must : Type 0) (n : ℕ) → Tells must Must → Tells (badNumber must n) (Must × (n ≡ 0 → ⊥))
 tells-number must Must n tells = record {
   true-is = λ e. let b = both-true must (not (eqb n 0)) e in (tells .true-is (b .0), differs n 0 .true-is (b .1));
@@ -320,7 +320,7 @@ module _ (finds : Refusal → Found) (h : Header) (why : Refusal) (at : ℕ) whe
           let x : placeOf w ≡ placeOf why = (let y = ltb-false n (placeOf why) t in let z = num .0 in omega arith) in
           rw (one-place w why x, q)
 
--- Refusal `why` is given at place `at` exactly when the table's line says so and no earlier line gives a refusal.
+-- Refusal `why` is given at place `at` exactly when the table's line says so and no earlier line gives a refusal (R32, R41 to R55).
 pub exactly : (f : List ℕ) (room : Room) (why : Refusal) (at : ℕ)
     → (refusalOf f room ≡ Refused why at)
     ↔ (Given (headerIn f) f room why at × ((e : Refusal) → Earlier e why → (p : ℕ) → Given (headerIn f) f room e p → ⊥))

@@ -1,5 +1,5 @@
--- The fields of a row in file order: document 01, "The run file". Each has a number in that order, numbers go up with offsets, and
--- at its offset stands what the row holds for it; so a place names a row and a field.
+-- The fields of a row in file order (R10). Each has a number in that order, numbers go up with offsets, and at its offset stands what the row
+-- holds for it; so a place names a row and a field (R36).
 use Prim.Native.Nat.{ℕ, zero, suc, _+_, _*_, _-_, _/_, _%_, _≤_, _<_}
 use mathlib.Core.Path.{_≡_, refl, sym, ap, _∙_}
 use mathlib.Core.Logic.{_↔_, _⊎_, inl, inr, ⊎-elim}
@@ -13,7 +13,7 @@ use Rattle.runfile.specs.declared.Field.the-variants.{Process, Kind, Wor
 use Rattle.runfile.specs.Format.{RowSize, row-least, newPlace, new-place, new-after, offsetOf}
 use Rattle.runfile.specs.Layout.{rowPlace, byteAt, numberAt, rowAt, zeroByteAt}
 
--- "A row: process, kind, word, a zero byte, then old and new (2 bytes each)."
+-- the six fields, in the order in which they stand and are looked at (R10, R36)
 abbrev pub fields : List Field
 fields = Process ∷ Kind ∷ Word ∷ ZeroByte ∷ Old ∷ New ∷ []
 

@@ -1,5 +1,5 @@
--- What depends on the version of a file: document 01, "The run file". The sizes of header, word and row, and the longest file, by the version;
--- where a row's fields stand, by the row's size. All other definitions take these numbers from here, and the code takes them from src/format.rt.
+-- What depends on the version of a file: the sizes of header, word and row, and the longest file, by the version (R2, R6, R7, R9); where a row's
+-- fields stand, by the row's size (R10). All other definitions take these numbers from here, and the code takes them from src/format.rt.
 use Prim.Native.Nat.{ℕ, zero, suc, _+_, _*_, _-_, _≤_, _<_}
 use mathlib.Core.Path.{_≡_, refl}
 use native.Mathlib.Nat.{mul-le-mul-right, suc-mul}
@@ -7,11 +7,11 @@ use native.Mathlib.Omega.{arith}
 use Rattle.runfile.specs.declared.Field.{Field}
 use Rattle.runfile.specs.declared.Field.the-variants.{Process, Kind, Word, ZeroByte, Old, New}
 
--- the bytes that every version's header has: the mark, the version, P, W, the row count and S
+-- the bytes that every version's header has: the mark, the version, P, W, the row count and S (R2)
 abbrev pub leastHead : ℕ
 leastHead = 11
 
--- the bytes of the header, of a word ("W words of 4 bytes") and of a row ("the operation rows of 8 bytes")
+-- the bytes of the header (R2), of a word (R6) and of a row (R7)
 unfoldable pub headSize : ℕ → ℕ
 headSize version = leastHead
 
@@ -43,7 +43,7 @@ pub word-most : (version : ℕ) → wordSize version ≤ 8
 unfolding wordSize
 word-most version = omega arith
 
--- "A row: process, kind, word, a zero byte, then old and new (2 bytes each)": where new stands in a row of this size, and each field's first byte
+-- where new stands in a row of this size, and each field's first byte (R10)
 unfoldable pub newPlace : ℕ → ℕ
 newPlace size = 6
 
@@ -63,7 +63,7 @@ offsetOf size ZeroByte = 3
 offsetOf size Old = 4
 offsetOf size New = newPlace size
 
--- "P and W are 1 to 16, rows 0 to 512, S 0 to 1,024. The longest file has 5,195 bytes."
+-- the longest file of a version: sixteen words, 512 rows and 1,024 schedule bytes (R5, R9)
 unfoldable pub longestFile : ℕ → ℕ
 longestFile version = headSize version + 16 * wordSize version + 512 * rowSize version + 1024
 

@@ -1,5 +1,5 @@
--- The definitions at files, by computation: bench case f is accepted, case l is refused by 11 at place 15, and one slip in each field
--- of a row is refused by 9 at that field's first byte.
+-- The definitions at files, by computation: case f (R266) is accepted, case l (R272) is refused by 11 at place 15, and one slip in each field
+-- of a row is refused by 9 at that field's first byte (R36).
 use Prim.Native.Nat.{ℕ}
 use mathlib.Core.Path.{_≡_, refl}
 use mathlib.Core.List.{List, [], _∷_, _++_, map}
@@ -10,13 +10,13 @@ use Rattle.runfile.specs.Format.{headSize, wordSize, rowSize, newPlace}
 use Rattle.runfile.specs.Layout.{u16At, marked, headerIn, numberAt, rowAt}
 use Rattle.runfile.specs.Refusals.{badField, sameFields, badByte, firstBadField, firstRow, firstLaterRow, firstByte, refusalOf}
 
--- "The file for f"
+-- the file of case f (R266)
 abbrev caseF : List ℕ
 caseF =
     83 ∷ 87 ∷ 82 ∷ 1 ∷ 0 ∷ 2 ∷ 1 ∷ 2 ∷ 0 ∷ 12 ∷ 0 ∷ 7 ∷ 0 ∷ 0 ∷ 0 ∷ 0 ∷ 1 ∷ 0 ∷ 0 ∷ 7 ∷ 0 ∷ 8 ∷ 0 ∷ 1 ∷ 1 ∷ 0 ∷ 0 ∷ 7 ∷ 0 ∷ 9 ∷ 0
     ∷ 0 ∷ 0 ∷ 1 ∷ 1 ∷ 1 ∷ 1 ∷ 1 ∷ 0 ∷ 0 ∷ 0 ∷ 0 ∷ 0 ∷ []
 
--- l: one word at 7, the row "p0 7>7", no schedule
+-- the file of case l: one word at 7, a row of process 0 that would swap 7 for 7, no schedule (R272)
 abbrev caseL : List ℕ
 caseL = 83 ∷ 87 ∷ 82 ∷ 1 ∷ 0 ∷ 1 ∷ 1 ∷ 1 ∷ 0 ∷ 0 ∷ 0 ∷ 7 ∷ 0 ∷ 0 ∷ 0 ∷ 0 ∷ 1 ∷ 0 ∷ 0 ∷ 7 ∷ 0 ∷ 7 ∷ 0 ∷ []
 
@@ -35,7 +35,7 @@ l-refused = refl
 abbrev withRows : List ℕ → List ℕ → List ℕ
 withRows a b = 83 ∷ 87 ∷ 82 ∷ 1 ∷ 0 ∷ 2 ∷ 1 ∷ 2 ∷ 0 ∷ 0 ∷ 0 ∷ 7 ∷ 0 ∷ 0 ∷ 0 ∷ (a ++ b)
 
--- "p0 read"
+-- a read by process 0 with no slip
 abbrev sound : List ℕ
 sound = 0 ∷ 0 ∷ 0 ∷ 0 ∷ 0 ∷ 0 ∷ 0 ∷ 0 ∷ []
 

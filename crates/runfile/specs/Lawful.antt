@@ -47,7 +47,7 @@ pub record LawfulRow (h : Header) (row : Row) (zeroByte : ℕ) : Type 0 where
   pub zero-old : zeroOld (kindOf row) ≡ true → row .old ≡ 0
   pub zero-new : zeroNew (kindOf row) ≡ true → row .new ≡ 0
 
--- refusal 12 is not given for this byte: a step, crash or wake of a process below P, or a crash of all
+-- refusal 12 is not given for this byte: a step, crash or wake of a process below P, or a crash of all (R73)
 pub data LawfulByte (processes byte : ℕ) : Type 0 where
   of-one : byte / 16 < 3 → byte % 16 < processes → LawfulByte processes byte
   of-all : byte / 16 ≡ 15 → byte % 16 ≡ 0 → LawfulByte processes byte
@@ -109,7 +109,7 @@ lawful-head h f room c =
       exact = eqb-true (length f) (lengthGiven h) (not-false (eqb (length f) (lengthGiven h)) (whole-clear (not (eqb (length f) (lengthGiven h))) (r .1 .1 .1 .1 .0)));
     }
 
--- "The longest file has 5,195 bytes."
+-- no lawful file is longer than the longest (R9)
 pub longest : (h : Header) (f : List ℕ) → LawfulHead h f → length f ≤ longestFile (h .version)
 longest h f l = let e = l .exact in let m = longest-holds (h .version) (h .words) (h .rows) (h .steps) (l .words) (l .rows) (l .steps) in omega arith
 
@@ -135,7 +135,7 @@ not-same row = go (kindOf row)
     go Read e h = h
     go Compare e h = eqb-false (row .old) (row .new) e h
 
--- from 3 on only 15 is an action
+-- from 3 on only 15 is an action (R72)
 pub high-action : (high : ℕ) → 3 ≤ high → actionOf high ≡ cond (eqb high 15) crashAll none
 high-action high h = simp (ne-eqb high 0 (λ e. omega arith), ne-eqb high 1 (λ e. omega arith), ne-eqb high 2 (λ e. omega arith))
 

@@ -1,4 +1,4 @@
--- Where the parts of a run file stand, and their fields: document 01, "The run file".
+-- Where the parts of a run file stand, and their fields (R1 to R8, R10).
 -- A file is the list of its bytes. Everything here is total: a byte past the end counts as 0.
 use Prim.Native.Nat.{ℕ, _+_, _*_, _≤_}
 use mathlib.Core.Bool.{Bool, _&&_}
@@ -12,29 +12,29 @@ use Rattle.runfile.specs.Format.{headSize, wordSize, rowSize, RowSize, n
 abbrev pub byteAt : List ℕ → ℕ → ℕ
 byteAt f at = getD f at 0
 
--- "Numbers are little-endian."
+-- a number of two bytes, and one of four: the lowest byte first (R1)
 unfoldable pub u16At : List ℕ → ℕ → ℕ
 u16At f at = byteAt f at + byteAt f (at + 1) * 256
 
 unfoldable pub u32At : List ℕ → ℕ → ℕ
 u32At f at = byteAt f at + byteAt f (at + 1) * 256 + byteAt f (at + 2) * 65536 + byteAt f (at + 3) * 16777216
 
--- "Three bytes `SWR`"
+-- the file begins with the mark `SWR` (R3)
 unfoldable pub marked : List ℕ → Bool
 marked f = eqb (byteAt f 0) 83 && (eqb (byteAt f 1) 87 && eqb (byteAt f 2) 82)
 
--- "a 16-bit version, 1; process count P (1 byte); word count W (1 byte); row count (2 bytes); schedule length S (2 bytes)."
+-- the header behind its mark: the version, P, W, the row count and S (R2)
 unfoldable pub headerIn : List ℕ → Header
 headerIn f = record { version = u16At f 3; processes = byteAt f 5; words = byteAt f 6; rows = u16At f 7; steps = u16At f 9 }
 
--- "Then W words of 4 bytes": the start word i, in a file of this version
+-- where start word i stands in a file of this version, and the word (R6)
 abbrev pub wordPlace : ℕ → ℕ → ℕ
 wordPlace version i = headSize version + i * wordSize version
 
 abbrev pub wordIn : ℕ → List ℕ → ℕ → ℕ
 wordIn version f i = u32At f (wordPlace version i)
 
--- "the operation rows of 8 bytes": where they begin, from one to the next, and where row k of those that begin at `start` stands
+-- where the rows begin, how many bytes it is from one to the next, and where row k of those that begin at `start` stands (R7)
 abbrev pub rowsStart : Header → ℕ
 rowsStart h = wordPlace (h .version) (h .words)
 
@@ -44,7 +44,7 @@ strideOf h = rowSize (h .version)
 abbrev pub rowPlace : ℕ → ℕ → ℕ → ℕ
 rowPlace stride start k = start + k * stride
 
--- "A row: process, kind, word, a zero byte, then old and new (2 bytes each)."
+-- old or new of a row; and the fields of the row at a place (R10)
 unfoldable pub numberAt : ℕ → List ℕ → ℕ → ℕ
 numberAt stride f at = u16At f at
 
@@ -65,13 +65,13 @@ pub record HasRow (stride : ℕ) (table : List ℕ) (k : ℕ) : Type 0 where
   pub size : RowSize stride
   pub whole : k * stride + stride ≤ length table
 
--- "the schedule bytes, and nothing more. The schedule is the part of the file that begins after the last row."
+-- the schedule: all that stands behind the last row (R8)
 abbrev pub scheduleStart : Header → ℕ
 scheduleStart h = rowPlace (strideOf h) (rowsStart h) (h .rows)
 
 abbrev pub scheduleIn : Header → List ℕ → List ℕ
 scheduleIn h f = drop (scheduleStart h) f
 
--- the length that a header gives its file
+-- the length that a header gives its file (R8)
 abbrev pub lengthGiven : Header → ℕ
 lengthGiven h = scheduleStart h + h .steps

@@ -1,6 +1,5 @@
--- Laws of `firstOf`, "the first check that offends": where the first part of a list of checks finds nothing the rest decides,
--- else the first part has decided; and where all is accepted, no check of the list found anything.
--- By induction on the list. Assumes nothing.
+-- Laws of `firstOf`, by which the first check that finds something decides (R32): where the first part of a list of checks finds nothing the
+-- rest decides, else the first part has decided; and where all is accepted, no check of the list found anything. By induction on the list.
 use Prim.Native.Nat.{ℕ}
 use mathlib.Core.Path.{_≡_, refl}
 use mathlib.Core.Bool.{Bool, false}

@@ -14,11 +14,11 @@ use Rattle.runfile.specs.Table.{Given, Earlier}
 use Rattle.runfile.specs.Exactly.{exactly}
 use Rattle.runfile.specs.Lawful.{Lawful, lawful}
 
--- `check(file, room)`, for every byte string and every three lengths
+-- `check(file, room)`, for every byte string and every three lengths (R240)
 pub record Decides (f : List ℕ) (room : Room) (r : Checked) : Type 0 where
   pub result : r ≡ refusalOf f room
 
--- `number_of(why)`
+-- `refusal_number(why)` (R41 to R55)
 pub record Numbers (why : Refusal) (r : ℕ) : Type 0 where
   pub result : r ≡ numberOf why
 

@@ -1,5 +1,5 @@
--- What is refused: document 01, "Refusal numbers", as a computation. `found` is the table, a line for each of its lines.
--- Table.antt says the same in propositions, and Exactly.antt proves that the two agree.
+-- What is refused, as a computation (R30 to R55). `found` is the table, a line for each refusal; Table.antt says the same in propositions,
+-- and Exactly.antt proves that the two agree.
 use Prim.Native.Nat.{ℕ, zero, suc, _+_, _*_, _-_}
 use mathlib.Core.Bool.{Bool, true, false, not, _&&_, _||_}
 use mathlib.Core.List.{List, [], _∷_, _++_}
@@ -24,7 +24,7 @@ use Rattle.runfile.specs.Fields.{fields, fieldAt}
 use Rattle.runfile.specs.Kinds.{kindOf}
 use Rattle.runfile.specs.Actions.{Action, step, crash, wake, crashAll, none, action, named}
 
--- the table's first column
+-- the numbers of the refusals (R41 to R55)
 abbrev pub numberOf : Refusal → ℕ
 numberOf refusal.Short = 1
 numberOf refusal.Mark = 2
@@ -42,12 +42,11 @@ numberOf refusal.WordsRoom = 13
 numberOf refusal.LogRoom = 14
 numberOf refusal.AnswersRoom = 15
 
--- P and W "are 1 to 16"
+-- P and W may be 1 to 16 (R44, R45)
 abbrev pub outOfRange : ℕ → Bool
 outOfRange n = eqb n 0 || ltb 16 n
 
--- "Kind 0 reads, and its old and new are 0; kind 1 compares and swaps": which numbers are kinds in a version, which kinds must have old 0 and
--- which new 0
+-- which numbers are no kinds in a version (R49b), which kinds must have old 0 (R49e) and which new 0 (R49f)
 abbrev pub badKind : ℕ → ℕ → Bool
 badKind version kind = ltb 1 kind
 
@@ -59,7 +58,7 @@ abbrev pub zeroNew : Kind → Bool
 zeroNew Read = true
 zeroNew Compare = false
 
--- 9: "a row's process, kind or word out of range, its zero byte not 0, or a read whose old or new is not 0", field by field
+-- 9: whether a field of a row is faulty, a line for each field (R49a to R49f)
 abbrev pub badNumber : Bool → ℕ → Bool
 badNumber must number = must && not (eqb number 0)
 
@@ -74,11 +73,11 @@ badField h row zeroByte field.New = badNumber (zeroNew (kindOf row)) (row .new)
 abbrev pub badIn : Header → ℕ → List ℕ → ℕ → ℕ → Field → Bool
 badIn h stride f start k = badField h (rowIn stride f start k) (zeroByteAt f (rowPlace stride start k))
 
--- 10: "a row's process is below that of the row before"
+-- 10: a row has a smaller process than the row in front of it (R50)
 abbrev pub below : ℕ → List ℕ → ℕ → ℕ → Bool
 below stride f start k = ltb (rowIn stride f start k .process) (rowIn stride f start (k - 1) .process)
 
--- 11: "a compare row with old equal to new"
+-- 11: old and new are alike in a row that compares (R51)
 abbrev pub sameBy : Kind → (old new : ℕ) → Bool
 sameBy Read old new = false
 sameBy Compare old new = eqb old new
@@ -89,7 +88,7 @@ sameFields row = sameBy (kindOf row) (row .old) (row .new)
 abbrev pub same : ℕ → List ℕ → ℕ → ℕ → Bool
 same stride f start k = sameFields (rowIn stride f start k)
 
--- 12: "A byte is refused if its action is none, if its process is P or more for 0, 1 and 2, or if its low bits are not 0 for 15."
+-- 12: a byte is no action, by its action and its low four bits (R73)
 abbrev pub badAction : ℕ → ℕ → Action → Bool
 badAction processes low step = leb processes low
 badAction processes low crash = leb processes low
@@ -100,7 +99,7 @@ badAction processes low none = true
 unfoldable pub badByte : ℕ → ℕ → Bool
 badByte processes byte = badAction processes (named byte) (action byte)
 
--- what is found first, going by the numbers k, k + 1, .. (n of them)
+-- what is found first, going by the numbers k, k + 1, .. (n of them; R33)
 abbrev pub orLater : Found → Found → Found
 orLater (At place) later = At place
 orLater Nowhere later = later
@@ -117,7 +116,7 @@ foundIf false place = Nowhere
 abbrev pub firstOffender : (ℕ → ℕ) → (ℕ → Bool) → ℕ → ℕ → Found
 firstOffender place offends = firstFound (λ k. foundIf (offends k) (place k))
 
--- "The first faulty field of the first faulty row ends the search; fields go in file order": in row k, and over the n rows from `start` on
+-- the place of the first faulty field, in file order: in row k, and over the n rows from `start` on (R36)
 abbrev pub badFieldIn : Header → ℕ → List ℕ → ℕ → ℕ → Found
 badFieldIn h stride f start k = firstOffender (λ i. rowPlace stride start k + offsetOf stride (fieldAt i)) (λ i. badIn h stride f start k (fieldAt i)) 0 (length fields)
 
@@ -141,7 +140,7 @@ firstByte start offends bytes = firstOffender (λ i. start + i) (offendsAt offen
 abbrev pub whole : Bool → Found
 whole t = foundIf t 0
 
--- the table: what each check finds, over the whole file
+-- the table: what each check finds, over the whole file (R41 to R55)
 abbrev pub found : Header → List ℕ → Room → Refusal → Found
 found h f room refusal.Short = whole (ltb (length f) leastHead)
 found h f room refusal.Mark = whole (not (marked f))
@@ -159,7 +158,7 @@ found h f room refusal.WordsRoom = whole (ltb (room .words) (h .words))
 found h f room refusal.LogRoom = whole (ltb (room .log) (5 * h .steps))
 found h f room refusal.AnswersRoom = whole (ltb (room .answers) (5 * h .steps))
 
--- "Checks go in this order. Each check goes over the whole file before the next begins, and the first offender is reported."
+-- the checks in order, each over the whole file: the first that finds something decides (R32, R33)
 abbrev pub orElse : Refusal → Found → Checked → Checked
 orElse why (At place) later = Refused why place
 orElse why Nowhere later = later
@@ -204,11 +203,11 @@ placeOf refusal.WordsRoom = 12
 placeOf refusal.LogRoom = 13
 placeOf refusal.AnswersRoom = 14
 
--- the whole answer
+-- the whole answer (R30)
 unfoldable pub refusalOf : List ℕ → Room → Checked
 refusalOf f room = firstOf (found (headerIn f) f room) inOrder (headerIn f)
 
--- refusals 1 to 12 alone: they look at no buffer
+-- refusals 1 to 12 alone: they look at no buffer (R221)
 abbrev pub noRoom : Room
 noRoom = record { words = 0; log = 0; answers = 0 }
 

@@ -1,4 +1,4 @@
--- Laws of `firstFound`, "the first offender is reported": a search that found nothing passed nothing, and one that found a place
+-- Laws of `firstFound`, which gives the first offender (R33): a search that found nothing passed nothing, and one that found a place
 -- found it at the first number that has one (`earliest`), the same both ways. By induction on the numbers left.
 use Prim.Native.Nat.{ℕ, zero, suc, _+_, _≤_, _<_}
 use mathlib.Core.Path.{_≡_, refl, _∙_}

@@ -1,4 +1,4 @@
--- How the rows fall to the processes, as tables of sixteen numbers: "A process's rows are carried out in file order."
+-- How the rows fall to the processes, as tables of sixteen numbers: by them the next row of a process is found at once (R12, R87).
 use Prim.Native.Nat.{ℕ, zero, suc, _+_, _*_, _≤_, _<_}
 use mathlib.Core.Path.{_≡_, refl, sym, _∙_}
 use mathlib.Core.Bool.{Bool, true, false, cond}

@@ -1,5 +1,5 @@
--- The table of refusals in propositions, line by line: document 01, "Refusal numbers". `Given h f room why at` is the column
--- "Given exactly when" with the column "Place": h is the file's header, f its bytes, room the lengths of the three buffers.
+-- The table of refusals in propositions, line by line (R41 to R55). `Given h f room why at` says when a refusal is given, and at which place:
+-- h is the file's header, f its bytes, room the lengths of the three buffers.
 use Prim.Native.Nat.{ℕ, _+_, _*_, _-_, _/_, _%_, _≤_, _<_}
 use mathlib.Core.Path.{_≡_}
 use mathlib.Core.Logic.{_⊎_}
@@ -19,12 +19,11 @@ use Rattle.runfile.specs.Layout.{byteAt, rowsStart, strideOf, rowPlace, 
 use Rattle.runfile.specs.Kinds.{kindOf}
 use Rattle.runfile.specs.Refusals.{placeOf}
 
--- 2: the mark is `SWR`
+-- 2: the mark is `SWR` (R3)
 abbrev pub Marked : List ℕ → Type 0
 Marked f = (byteAt f 0 ≡ 83) × (byteAt f 1 ≡ 87) × (byteAt f 2 ≡ 82)
 
--- 9: "a row's process, kind or word out of range, its zero byte not 0, or a read whose old or new is not 0", field by field
--- ("Kind 0 reads, and its old and new are 0; kind 1 compares and swaps": which numbers are kinds in a version, which kinds must have old 0 and which new 0)
+-- 9: which numbers are no kinds, which kinds must have old 0 and which new 0; and a field of a row is faulty, field by field (R49a to R49f)
 abbrev pub BadKind : ℕ → ℕ → Type 0
 BadKind version kind = 1 < kind
 
@@ -44,7 +43,7 @@ BadField h row zeroByte field.ZeroByte = zeroByte ≡ 0 → ⊥
 BadField h row zeroByte field.Old = ZeroOld (kindOf row) × (row .old ≡ 0 → ⊥)
 BadField h row zeroByte field.New = ZeroNew (kindOf row) × (row .new ≡ 0 → ⊥)
 
--- 11: "a compare row with old equal to new"
+-- 11: old and new are alike in a row that compares (R51)
 abbrev pub Same : Kind → (old new : ℕ) → Type 0
 Same Read old new = ⊥
 Same Compare old new = old ≡ new
@@ -52,13 +51,13 @@ Same Compare old new = old ≡ new
 abbrev pub SameFields : Row → Type 0
 SameFields row = Same (kindOf row) (row .old) (row .new)
 
--- 12: "A byte is refused if its action is none, if its process is P or more for 0, 1 and 2, or if its low bits are not 0 for 15."
+-- 12: a byte is no action, in one of three ways (R73)
 pub data BadByte (processes byte : ℕ) : Type 0 where
   no-action : 3 ≤ byte / 16 → (byte / 16 ≡ 15 → ⊥) → BadByte processes byte
   no-process : byte / 16 < 3 → processes ≤ byte % 16 → BadByte processes byte
   low-bits : byte / 16 ≡ 15 → (byte % 16 ≡ 0 → ⊥) → BadByte processes byte
 
--- "the first offender is reported": of the n numbers from `from` on, the first that is bad, and its place
+-- of the n numbers from `from` on, the first that is bad, and its place (R33)
 pub record First (from n : ℕ) (place : ℕ → ℕ) (Bad : ℕ → Type 0) (at : ℕ) : Type 0 where
   pub which : ℕ
   pub after : from ≤ which
@@ -88,7 +87,7 @@ byteOf h f i = getD (scheduleIn h f) i 0
 abbrev pub FirstByte : Header → List ℕ → (List ℕ → ℕ → Type 0) → ℕ → Type 0
 FirstByte h f Bad at = First 0 (length (scheduleIn h f)) (λ i. scheduleStart h + i) (λ i. Bad (take i (scheduleIn h f)) (byteOf h f i)) at
 
--- 9, and its place: "The first faulty field of the first faulty row ends the search; fields go in file order", that field's first byte
+-- 9, and its place: the first byte of the first faulty field, by offsets, of the first faulty row (R36)
 abbrev pub BadIn : Header → List ℕ → ℕ → Field → Type 0
 BadIn h f k x = BadField h (rowOf h f k) (zeroByteOf h f k) x
 
@@ -101,6 +100,7 @@ pub record FirstBadField (h : Header) (f : List ℕ) (at : ℕ) : Type 0 where
   pub no-field-before : (x : Field) → offsetOf (strideOf h) x < offsetOf (strideOf h) field → BadIn h f row x → ⊥
   pub here : at ≡ rowPlace (strideOf h) (rowsStart h) row + offsetOf (strideOf h) field
 
+-- the table, a line for each refusal (R41 to R55)
 abbrev pub Given : Header → List ℕ → Room → Refusal → ℕ → Type 0
 Given h f room refusal.Short at = (length f < 11) × (at ≡ 0)
 Given h f room refusal.Mark at = (Marked f → ⊥) × (at ≡ 0)
@@ -118,6 +118,6 @@ Given h f room refusal.WordsRoom at = (room .words < h .words) × (at ≡ 0)
 Given h f room refusal.LogRoom at = (room .log < 5 * h .steps) × (at ≡ 0)
 Given h f room refusal.AnswersRoom at = (room .answers < 5 * h .steps) × (at ≡ 0)
 
--- "Checks go in this order": by their places in the list of checks, not by their numbers
+-- the order of the checks (R32): by their places in the list of checks, not by their numbers
 abbrev pub Earlier : Refusal → Refusal → Type 0
 Earlier e why = placeOf e < placeOf why

@@ -1,4 +1,4 @@
-// What depends on the version of a file: the sizes of header, word and row, and where a row's fields stand.
+// What depends on the version of a file: the sizes of header, word and row (R2, R6, R7), and where a row's fields stand (R10).
 use super::Field;
 ghost use mathlib.Core.Path.{_≡_};
 ghost use Prim.Native.Nat.{_+_, _≤_, _<_};

@@ -4,7 +4,7 @@ use super::Row;
 ghost use mathlib.Core.Path.{_≡_};
 ghost use Rattle.runfile.specs.Kinds.{kindNumbered, kindOf};
 
-// "Kind 0 reads"; a number that is no kind's is refused under 9, and goes with 1 elsewhere.
+// Kind 0 reads (R11); a number that is no kind's is refused under 9 (R49b), and goes with 1 elsewhere.
 pub fn kind_numbered(number: u8) -> Kind
     ensures { λ r. ⌜ r ≡ kindNumbered number ⌝ }
 {

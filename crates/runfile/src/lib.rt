@@ -38,10 +38,10 @@ ghost use Rattle.runfile.specs.Layout.{lengthGiven};
 ghost use Rattle.runfile.specs.Refusals.{outOfRange, firstOf, found, noRoom, countChecks, headChecks, bodyChecks, roomChecks, fileRefusal};
 ghost use Rattle.runfile.specs.Promises.{Decides, Numbers};
 
-// One byte more than the longest file has. So many bytes of any file decide what it comes to (specs/Enough).
+// One byte more than the longest file has (R9). So many bytes of any file decide what it comes to (R35, specs/Enough).
 pub const ENOUGH_BYTES: usize = 5196;
 
-// What the first eleven bytes give, after the mark.
+// What the first eleven bytes give, after the mark (R2).
 pub struct Header {
     pub version: u16,
     pub processes: u8,
@@ -50,7 +50,7 @@ pub struct Header {
     pub steps: u16,
 }
 
-// What an operation does: kind 0 reads, kind 1 compares and swaps.
+// What an operation does: kind 0 reads, kind 1 compares and swaps (R11).
 pub enum Kind {
     Read,
     Compare,
@@ -65,7 +65,7 @@ pub struct Row {
     pub new: u16,
 }
 
-// The fields of a row as they stand in the file, in their order there.
+// The fields of a row as they stand in the file, in their order there (R10).
 pub enum Field {
     Process,
     Kind,
@@ -82,7 +82,7 @@ pub struct Room {
     pub answers: usize,
 }
 
-// The refusals in the order of document 01's table; `refusal_number` gives the numbers.
+// The refusals in the order of their checks (R32); `refusal_number` gives the numbers.
 pub enum Refusal {
     Short,
     Mark,
@@ -107,13 +107,13 @@ pub enum Found {
     At(usize),
 }
 
-// The answer: accepted, with the header, or refused, with the place counted in bytes from 0.
+// The answer: accepted, with the header, or refused, with the place counted in bytes from 0 (R30, R31).
 pub enum Checked {
     Accepted(Header),
     Refused(Refusal, usize),
 }
 
-// The number that document 01 gives a refusal.
+// The number of a refusal (R41 to R55).
 pub fn refusal_number(why: Refusal) -> u32
     ensures { λ r. ⌜ Numbers why r ⌝ }
 {
@@ -136,7 +136,7 @@ pub fn refusal_number(why: Refusal) -> u32
     }
 }
 
-// "P and W are 1 to 16".
+// P and W may be 1 to 16 (R44, R45).
 fn is_out_of_range(count: u8) -> bool
     ensures { λ r. ⌜ r ≡ outOfRange count ⌝ }
 {
@@ -146,7 +146,7 @@ fn is_out_of_range(count: u8) -> bool
     count > 16
 }
 
-// Refusals 3 to 7: what the header counts.
+// Refusals 3 to 7: what the header counts (R43 to R47).
 fn check_counts(header: Header) -> Checked
     ensures { λ r. ⌜ ((f : List ℕ) → r ≡ firstOf (found header f noRoom) countChecks header) ⌝ }
 {
@@ -168,7 +168,7 @@ fn check_counts(header: Header) -> Checked
     Checked::Accepted(header)
 }
 
-// Refusals 2 to 8: the mark, the header, and the length that it gives.
+// Refusals 2 to 8: the mark, the header, and the length that it gives (R42 to R48).
 fn check_head(file: &[u8], header: Header) -> Checked
     requires { ⌜ leastHead ≤ length (now file) ⌝ }
     ensures { λ r. ⌜ r ≡ firstOf (found header (now (file .entry)) noRoom) headChecks header ⌝ }
@@ -186,7 +186,7 @@ fn check_head(file: &[u8], header: Header) -> Checked
     Checked::Accepted(header)
 }
 
-// Refusals 9 to 12, each over the whole file before the next begins.
+// Refusals 9 to 12, one whole search after the other (R33, R49 to R52).
 fn check_body(file: &[u8], header: Header) -> Checked
     requires { ⌜ (length (now file) ≡ lengthGiven header) × (length (now file) ≤ longestOfAll) ⌝ }
     ensures { λ r. ⌜ r ≡ firstOf (found header (now (file .entry)) noRoom) bodyChecks header ⌝ }
@@ -210,7 +210,7 @@ fn check_body(file: &[u8], header: Header) -> Checked
     Checked::Accepted(header)
 }
 
-// Refusals 1 to 12: all that the file alone decides, for any bytes.
+// Refusals 1 to 12: all that the file alone decides, for any bytes (R41 to R52).
 pub fn check_file(file: &[u8]) -> Checked
     ensures { λ r. ⌜ r ≡ fileRefusal (now (file .entry)) ⌝ }
 {
@@ -225,7 +225,7 @@ pub fn check_file(file: &[u8]) -> Checked
     check_body(file, header)
 }
 
-// Refusals 13 to 15: a log row and an answer row of five numbers for each schedule byte.
+// Refusals 13 to 15: a log row and an answer row of five numbers for each schedule byte (R53 to R55).
 fn check_room(header: Header, room: Room) -> Checked
     ensures { λ r. ⌜ ((f : List ℕ) → r ≡ firstOf (found header f room) roomChecks header) ⌝ }
 {

@@ -1,4 +1,4 @@
-// Who offends: the test of one field, row or byte, and the search for the first that fails it (refusals 9 to 12).
+// Who offends: the test of one field, row or byte, and the search for the first that fails it (refusals 9 to 12, R49 to R52).
 use super::Field;
 use super::Found;
 use super::Header;
@@ -14,7 +14,7 @@ ghost use Rattle.runfile.specs.Format.{RowSize, longestOfAll};
 ghost use Rattle.runfile.specs.Layout.{numberAt, rowAt, rowPlace, zeroByteAt};
 ghost use Rattle.runfile.specs.Refusals.{zeroOld, zeroNew, badNumber, badField, sameFields, badByte, below, same, firstBadField, firstRow, firstLaterRow, firstByte};
 
-// The order in which a row's fields are looked at: that of the file.
+// The order in which a row's fields are looked at: that of the file (R36).
 const FIELDS: [Field; 6] = [
     Field::Process,
     Field::Kind,
@@ -24,7 +24,7 @@ const FIELDS: [Field; 6] = [
     Field::New,
 ];
 
-// Which kinds must have old 0, and which new 0: "Kind 0 reads, and its old and new are 0".
+// Which kinds must have old 0 (R49e), and which new 0 (R49f).
 fn has_zero_old(kind: Kind) -> bool
     ensures { λ r. ⌜ r ≡ zeroOld kind ⌝ }
 {
@@ -54,7 +54,7 @@ fn is_bad_number(file: &[u8], zero: bool, place: usize, stride: usize) -> bool
     false
 }
 
-// Refusal 9, of one field of the row at a place.
+// Refusal 9, of one field of the row at a place (R49a to R49f).
 fn is_bad_field(file: &[u8], at: usize, stride: usize, field: Field, header: Header) -> bool
     requires { ⌜ RowSize stride × (at + stride ≤ length (now file)) ⌝ }
     ensures { λ r. ⌜ r ≡ badField header (rowAt stride (now (file .entry)) at) (zeroByteAt (now (file .entry)) at) field ⌝ }
@@ -75,7 +75,7 @@ fn is_bad_field(file: &[u8], at: usize, stride: usize, field: Field, header: Hea
     }
 }
 
-// Refusal 11, of the row at a place.
+// Refusal 11, of the row at a place (R51).
 fn is_same(file: &[u8], at: usize, stride: usize) -> bool
     requires { ⌜ RowSize stride × (at + stride ≤ length (now file)) ⌝ }
     ensures { λ r. ⌜ r ≡ sameFields (rowAt stride (now (file .entry)) at) ⌝ }
@@ -90,7 +90,7 @@ fn is_same(file: &[u8], at: usize, stride: usize) -> bool
     }
 }
 
-// Refusal 12, of one byte: 0 step, 1 crash and 2 wake name a process, 3 to 14 are no action, 15 names none.
+// Refusal 12, of one byte: a step, a crash and a wake name a process, 3 to 14 are no action, a crash of all names none (R73).
 pub fn is_bad_byte(byte: u8, processes: u8) -> bool
     ensures { λ r. ⌜ r ≡ badByte processes byte ⌝ }
 {
@@ -101,7 +101,7 @@ pub fn is_bad_byte(byte: u8, processes: u8) -> bool
     }
 }
 
-// Refusal 9: of the rows that begin at `start`, the first faulty field of the first faulty row ends the search.
+// Refusal 9: of the rows that begin at `start`, the place of the first fault; it leaves both loops (R36, R305).
 pub fn first_bad_field(
     file: &[u8],
     start: usize,
@@ -130,7 +130,7 @@ pub fn first_bad_field(
     found
 }
 
-// Refusal 10: the first row whose process is below that of the row before, so from the second row on.
+// Refusal 10: the first row whose process is smaller than that of the row in front of it, so from the second row on (R50).
 pub fn first_below(file: &[u8], start: usize, stride: usize, rows: usize) -> Found
     requires { ⌜ RowSize stride × (rowPlace stride start rows ≤ length (now file)) ⌝ }
     ensures { λ r. ⌜ r ≡ firstLaterRow stride start rows (below stride (now (file .entry)) start) ⌝ }
@@ -147,7 +147,7 @@ pub fn first_below(file: &[u8], start: usize, stride: usize, rows: usize) -> Fou
     Found::Nowhere
 }
 
-// Refusal 11: the first compare row with old equal to new.
+// Refusal 11: the first row that compares and has old and new alike (R51).
 pub fn first_same(file: &[u8], start: usize, stride: usize, rows: usize) -> Found
     requires { ⌜ RowSize stride × (rowPlace stride start rows ≤ length (now file)) ⌝ }
     ensures { λ r. ⌜ r ≡ firstRow stride start rows (same stride (now (file .entry)) start) ⌝ }
@@ -163,7 +163,7 @@ pub fn first_same(file: &[u8], start: usize, stride: usize, rows: usize) -> Foun
     Found::Nowhere
 }
 
-// Refusal 12: the first byte that is no action. The schedule is the part of the file that begins at `start`.
+// Refusal 12: the first byte that is no action (R52). The schedule is lent as a part of the file, which begins at `start` (R304).
 pub fn first_bad_byte(schedule: &[u8], start: usize, processes: u8) -> Found
     requires { ⌜ start + length (now schedule) ≤ longestOfAll ⌝ }
     ensures { λ r. ⌜ r ≡ firstByte start (λ before. badByte processes) (now (schedule .entry)) ⌝ }

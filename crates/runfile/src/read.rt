@@ -1,4 +1,4 @@
-// Little-endian reads, the header by value, and where the parts begin that it gives.
+// Numbers of several bytes, lowest byte first (R1), the header by value, and where the parts begin that it gives (R2, R6 to R8).
 use super::Header;
 use super::Row;
 use super::format::head_size;

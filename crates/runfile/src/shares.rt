@@ -1,4 +1,4 @@
-// How the rows fall to the processes: two tables, made once per run, so that a start scans nothing.
+// How the rows fall to the processes (R12, R87): two tables, made once per run, so that a start scans nothing.
 use super::read::index8;
 use super::read::process_of_row;
 ghost use Prim.Native.Nat.{_<_};

@@ -9,8 +9,8 @@ use borrow.Author.Tests.{eqb-true, eqb-false}
 use Rattle.word.specs.Word.{valueIn, flipsIn, bitIn, swappedIn, bitOf, turnOf}
 use Rattle.word.specs.Bits.{bit-turn-same, bit-turn-other, bit-of-div, bits-one}
 
--- What a swap of n into the word w by process p comes to: new is put in, the own flip bit is turned, and the flip bit of every other process,
--- present or absent, is as it was ("bits of absent processes never change").
+-- What a swap of n into the word w by process p comes to (R114): new is put in, the own flip bit is turned, and the flip bit of every other
+-- process, present or absent, is as it was (R17).
 pub record AfterSwap (b p n w x : ℕ) : Type 0 where
   pub value : valueIn b x ≡ n
   pub own : bitIn b p x ≡ not (bitIn b p w)
@@ -26,7 +26,7 @@ module _ (b : ℕ) where
   unfolding valueIn
   value-own w = mod-eq-of-lt (mod-lt w (pow-pos b))
 
-  -- the flip bit of process p is bit b + p, counted in the whole word
+  -- the flip bit of process p is bit b + p, counted in the whole word (R15)
   pub bit-stands : (p w : ℕ) → bitIn b p w ≡ bitOf (b + p) w
   unfolding bitIn flipsIn
   bit-stands p w = bit-of-div p (w / 2 ^ b) ∙ ap (λ x. eqb (x % 2) 1) (shr-shr w b p) ∙ sym (bit-of-div (b + p) w)

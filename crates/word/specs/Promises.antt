@@ -34,7 +34,7 @@ flipped-one p w r q a b = a ∙ sym b
 pub swapped-one : (p n w r q : ℕ) → Swapped p n w r → Swapped p n w q → r ≡ q
 swapped-one p n w r q a b = a ∙ sym b
 
--- what `swapped_of` promises, in the paper's words: the word that it gives is what the swap comes to, and no other word is
+-- what `swapped_of` promises, bit by bit (R114, R17): the word that it gives is what the swap comes to, and no other word is
 pub swapped-after : (p n w r : ℕ) → n < 2 ^ width → Swapped p n w r → AfterSwap width p n w r
 swapped-after p n w r h e = subst (AfterSwap width p n w) (sym e) (after-swap width p n w h)
 

@@ -1,8 +1,8 @@
-// A word that survives a crash: a value in its low bits, and above it a flip bit for each process.
+// A word that survives a crash: a value in its low bits (R14), and above it a flip bit for each process (R15).
 ghost use Prim.Native.Nat.{_<_};
 ghost use Rattle.word.specs.Promises.{Valued, HasFlips, Flipped, Swapped};
 
-// "A word's low 16 bits are its value": how many bits, and how many values they hold.
+// How many bits of a word are its value, and how many values they hold (R14).
 const WIDTH: u32 = 16;
 
 const VALUES: u32 = 1 << WIDTH;
@@ -13,14 +13,14 @@ pub fn value_of(word: u32) -> u32
     word % VALUES
 }
 
-// The flip bits of all processes as one number.
+// The flip bits of all processes as one number (R192).
 pub fn flips_of(word: u32) -> u32
     ensures { λ r. ⌜ HasFlips word r ⌝ }
 {
     word / VALUES
 }
 
-// The flip bit of a process.
+// The flip bit of a process (R15).
 pub fn bit_of(process: u32, word: u32) -> bool
     requires { ⌜ process < 16 ⌝ }
     ensures { λ r. ⌜ Flipped process word r ⌝ }
@@ -28,7 +28,7 @@ pub fn bit_of(process: u32, word: u32) -> bool
     (word >> (WIDTH + process)) % 2 == 1
 }
 
-// The word after a process has turned its own flip bit and put in `new`.
+// The word after a process has turned its own flip bit and put in `new` (R114).
 pub fn swapped_of(process: u32, new: u16, word: u32) -> u32
     requires { ⌜ process < 16 ⌝ }
     ensures { λ r. ⌜ Swapped process new word r ⌝ }

@@ -1,4 +1,4 @@
--- `insert_row` meets its contract: the part from the place on comes back with its rows moved up, and the new row is written over the first of them (`put-back`).
+-- `insert_row` meets its contract: the part from the place on comes back with its rows moved up, and the new row is written over its front (`put-back`).
 use Prim.Native.Nat.{_*_, _-_}
 use mathlib.Core.Path.{_∙_}
 use native.Mathlib.Omega.{arith}
