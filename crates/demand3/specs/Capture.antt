@@ -1,4 +1,4 @@
--- Detectability, said plainly, of whatever meets demand 3; and the mission's capture, for every schedule: of workers that all move a word from
+-- Detectability, said plainly, of whatever machine meets demand 3; and the mission's capture, for every schedule: of workers that all move a word from
 -- the same old to the same new, at most one is told true, and it is one that made the move itself. For by the replay the first true leaves
 -- new, and new is not old.
 use Prim.Native.Nat.{ℕ, _+_, _≤_, _<_}
@@ -7,24 +7,22 @@ use mathlib.Core.Bool.{Bool, true, false, cond}
 use mathlib.Core.List.{List, [], _∷_, map, append-nil}
 use native.Mathlib.Omega.{arith}
 use lib.Dec.{eqb}
-use lib.ListN.{length, getD, set}
+use lib.ListN.{length, getD, set, length-map}
 use lib.Seq.{getD-set-same}
 use borrow.Author.Tests.{eqb-true}
 use Rattle.runfile.specs.declared.Row.{Row}
 use Rattle.runfile.specs.Operations.{rowNumbered}
 use Rattle.runfile.specs.Kinds.{kindOf, newOf, new-put}
-use Rattle.word.specs.Word.{value}
 use Rattle.rows.specs.declared.Entry.{Entry}
 use Rattle.rows.specs.Entries.{said, isSwapped}
 use Rattle.machine.specs.declared.Answer.the-variants.{False, True, Value}
 use Rattle.machine.specs.declared.Maybe.the-variants.{None, Is}
 use Rattle.machine.specs.Steps.{spoken}
 use Rattle.machine.specs.KindLaws.{says-true}
-use Rattle.machine.specs.Machine.{begin}
 use Rattle.replay.specs.Plain.{answerOf, leaves, Replayed}
 use Rattle.replay.specs.Lists.{All}
 use Rattle.replay.specs.Replay.{answer-swapped}
-use Rattle.demand3.specs.Statement.{of, Once, ownerOf, counts, swapCount, swapsTold, swaps, swapsWith, Told, Untold, Demand3}
+use Rattle.demand3.specs.Statement.{Firmware, of, Once, ownerOf, counts, swapCount, swapsTold, swaps, swapsWith, Told, Untold, Demand3}
 use Rattle.demand3.specs.Swaps.{swapsIn, swapsOf, logged-count}
 
 -- told true it swapped once, told anything else never
@@ -33,26 +31,26 @@ unfolding swapsTold isSwapped spoken
 told-counts = (refl, refl, refl, λ v. refl)
 
 -- an open row that has swapped stands in the log with true
-pub open-true : (rows : List Row) (P : ℕ) (words schedule : List ℕ) (log answers : List Entry) (k : ℕ) → Untold rows P words schedule k log answers → swaps rows P words schedule k ≡ 1 → Once (ownerOf rows k) k (Is True) log
-open-true rows P words schedule log answers k u e =
+pub open-true : (m : Firmware) (rows : List Row) (schedule : List ℕ) (log answers : List Entry) (k : ℕ) → Untold m rows schedule k log answers → swaps m rows schedule k ≡ 1 → Once (ownerOf rows k) k (Is True) log
+open-true m rows schedule log answers k u e =
     let stands = u .has-swapped e in
     subst (λ a. Once (ownerOf rows k) k (Is a) log) (says-true (kindOf (rowNumbered rows k)) (stands .0)) (stands .1)
 
-module _ (rows : List Row) (P : ℕ) (words schedule : List ℕ) (log answers : List Entry) (k : ℕ) (t : Told rows P words schedule k log answers) where
-  swapped-as-told : swaps rows P words schedule k ≡ swapsTold (t .answer)
-  swapped-as-told = ap (λ bytes. swapCount rows k 0 bytes (begin P words)) (sym (append-nil schedule)) ∙ t .swapped []
+module _ (m : Firmware) (rows : List Row) (schedule : List ℕ) (log answers : List Entry) (k : ℕ) (t : Told m rows schedule k log answers) where
+  swapped-as-told : swaps m rows schedule k ≡ swapsTold (t .answer)
+  swapped-as-told = ap (λ bytes. swapCount m rows k 0 bytes (m .start)) (sym (append-nil schedule)) ∙ t .swapped []
 
   -- told true: it swapped exactly once
-  pub told-true : t .answer ≡ Is True → swaps rows P words schedule k ≡ 1
+  pub told-true : t .answer ≡ Is True → swaps m rows schedule k ≡ 1
   told-true e = swapped-as-told ∙ ap swapsTold e ∙ told-counts .0
 
   -- told fail: it never swapped, and never will
-  pub told-fail : t .answer ≡ None → (more : List ℕ) → swapsWith rows P words schedule k more ≡ 0
+  pub told-fail : t .answer ≡ None → (more : List ℕ) → swapsWith m rows schedule k more ≡ 0
   told-fail e more = t .swapped more ∙ ap swapsTold e ∙ told-counts .1
 
   -- who has not swapped is not told true, whoever else has put in the same value
-  pub not-its-own : swaps rows P words schedule k ≡ 0 → t .answer ≡ Is True → ⊥
-  not-its-own z e = let one : swaps rows P words schedule k ≡ 1 = told-true e in omega arith
+  pub not-its-own : swaps m rows schedule k ≡ 0 → t .answer ≡ Is True → ⊥
+  not-its-own z e = let one : swaps m rows schedule k ≡ 1 = told-true e in omega arith
 
 -- swaps of two rows are swaps in the log
 two-rows : (k j : ℕ) → (k ≡ j → ⊥) → (log : List Entry) → swapsOf k log + swapsOf j log ≤ swapsIn log
@@ -121,10 +119,10 @@ module _ (rows : List Row) (w old new : ℕ) (differ : new ≡ old → ⊥) (mov
           rw here (omega arith)
 
   -- the capture: two operations are not both told true
-  pub one-mover : (P : ℕ) (words schedule : List ℕ) (log answers : List Entry) (values : List ℕ) → Demand3 rows P words schedule log answers values → w < length (map value words)
-      → (k j : ℕ) → (k ≡ j → ⊥) → (t : Told rows P words schedule k log answers) (u : Told rows P words schedule j log answers) → t .answer ≡ Is True → u .answer ≡ Is True → ⊥
-  one-mover P words schedule log answers values d l k j n t u et eu =
-      let one : swapsIn log ≤ 1 = at-most-one (map value words) log values (d .replayed) (d .log-rows) l in
+  pub one-mover : (f : Firmware) (schedule : List ℕ) (log answers : List Entry) (values : List ℕ) → Demand3 f rows schedule log answers values → w < length (f .words (f .start))
+      → (k j : ℕ) → (k ≡ j → ⊥) → (t : Told f rows schedule k log answers) (u : Told f rows schedule j log answers) → t .answer ≡ Is True → u .answer ≡ Is True → ⊥
+  one-mover f schedule log answers values d l k j n t u et eu =
+      let one : swapsIn log ≤ 1 = at-most-one (map (f .value) (f .words (f .start))) log values (d .replayed) (d .log-rows) (subst (λ n. w < n) (sym (length-map (f .words (f .start)) (f .value))) l) in
       let a : swapsOf k log ≡ 1 = logged-count (rowNumbered rows k .process) k (t .answer) log (t .logged) ∙ ap swapsTold et ∙ told-counts .0 in
       let b : swapsOf j log ≡ 1 = logged-count (rowNumbered rows j .process) j (u .answer) log (u .logged) ∙ ap swapsTold eu ∙ told-counts .0 in
       let two : swapsOf k log + swapsOf j log ≤ swapsIn log = two-rows k j n log in

@@ -27,7 +27,7 @@ use Rattle.rows.specs.BufferLaws.{rows-back}
 use Rattle.run.specs.declared.Outcome.the-variants as outcome
 use Rattle.run.specs.Run.{endOf, roomOf, EndsAs, Ends}
 use Rattle.replay.specs.Replay.{Good, answer-swapped}
-use Rattle.demand3.specs.Statement.{Demand3}
+use Rattle.demand3.specs.FlipBit.{OfFlipBit}
 use Rattle.demand3.specs.Plans.{Plan}
 use Rattle.demand3.specs.Demand.{demand3, words-stay}
 
@@ -36,7 +36,7 @@ Bytes f = (at : ℕ) → byteAt f at < 256
 
 -- demand 3 for the rows, the start words and the schedule of a file with this header
 abbrev pub OfFile : Header → List ℕ → List Entry → List Entry → List ℕ → Type 0
-OfFile h f = Demand3 (tableOf h f) (h .processes) (wordsOf h f) (scheduleIn h f)
+OfFile h f = OfFlipBit (tableOf h f) (h .processes) (wordsOf h f) (scheduleIn h f)
 
 module _ (f : List ℕ) (bytes : Bytes f) where
   -- a row that is lawful is good: where it swaps, it compares, and has an old and a new that differ

@@ -1,4 +1,5 @@
 pub mod Statement
+pub mod FlipBit
 pub mod Invariant
 pub mod Frames
 pub mod Effects

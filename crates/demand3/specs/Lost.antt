@@ -25,7 +25,7 @@ use Rattle.machine.specs.declared.Status.the-variants.{Busy}
 use Rattle.machine.specs.Machine.{State, procAt, after, begin}
 use Rattle.replay.specs.Lists.{keep-found}
 use Rattle.replay.specs.Replay.{first-swap}
-use Rattle.demand3.specs.Statement.{Beaten}
+use Rattle.demand3.specs.FlipBit.{Beaten}
 use Rattle.demand3.specs.Invariant.{Times, HasSwap, Pending, won, held, lost, BusyOk, working, StatusOk}
 use Rattle.demand3.specs.Plans.{Plan}
 use Rattle.demand3.specs.Answers.{answer-false, answer-never, says-not-false}

@@ -1,9 +1,10 @@
--- Demand 3, stated, for rows, start words and a schedule. Here is what it says, and every definition that it rests on beside those of the
--- machine (`Machine.antt`, which the contract of `run` cites too) and of plain words (`Plain.antt`). `File.antt` proves it of every run
--- file that is not refused, and of what `run` leaves in the three buffers.
+-- Demand 3, stated, for any machine, rows and a schedule. Here is what it says, and every definition that it rests on beside those of plain
+-- words (`Plain.antt`). A machine is given by its states, its step and what is to be seen of a state (`Firmware`); that an operation has begun,
+-- has ended, has swapped or has stored its answer is said of that machine's own states, and the log is not asked. `FlipBit.antt` gives the
+-- machine of the paper, `File.antt` proves the demand of every run file that is not refused, and of what `run` leaves in the three buffers;
+-- `Wrong.antt` gives three machines that break it.
 --
--- An operation is a row of the file, known by its number k. That it has begun, has ended, has swapped or has stored its answer is said of the
--- states that the machine goes through; the log is not asked.
+-- An operation is a row of the file, known by its number k.
 use Prim.Native.Nat.{ℕ, suc, _+_, _≤_, _<_}
 use mathlib.Core.Path.{_≡_}
 use mathlib.Core.Bool.{Bool, true, false, not, _&&_}
@@ -14,22 +15,16 @@ use Rattle.runfile.specs.declared.Row.{Row}
 use Rattle.runfile.specs.Operations.{rowNumbered, first}
 use Rattle.runfile.specs.Kinds.{kindOf}
 use Rattle.runfile.specs.Actions.{named}
-use Rattle.word.specs.Word.{value}
 use Rattle.rows.specs.declared.Entry.{Entry}
 use Rattle.rows.specs.Entries.{said, isSwapped}
-use Rattle.rows.specs.Log.{isSwap, firstSwap}
 use Rattle.machine.specs.declared.Answer.{Answer}
-use Rattle.machine.specs.declared.Answer.the-variants.{False}
 use Rattle.machine.specs.declared.Maybe.{Maybe}
 use Rattle.machine.specs.declared.Maybe.the-variants.{None, Is}
 use Rattle.machine.specs.declared.Opened.{Opened}
 use Rattle.machine.specs.declared.Opened.the-variants.{Closed, Open}
-use Rattle.machine.specs.declared.Stage.the-variants.{A5}
-use Rattle.machine.specs.declared.Status.the-variants.{Busy}
 use Rattle.machine.specs.Steps.{spoken, swapSays}
-use Rattle.machine.specs.Machine.{State, procAt, step, after, begin}
 use Rattle.replay.specs.Plain.{Replayed}
-use Rattle.replay.specs.Lists.{All, keep, Found}
+use Rattle.replay.specs.Lists.{All, keep}
 
 -- the entries of row k, in the log or in the answers
 unfoldable pub of : ℕ → List Entry → List Entry
@@ -63,6 +58,22 @@ abbrev pub counts : Bool → ℕ
 counts true = 1
 counts false = 0
 
+-- A machine, as demand 3 sees it: its states, the one before the first byte, and what the byte at position t makes of a state; and what is to be
+-- seen of a state
+pub record Firmware : Type 1 where
+  pub State : Type 0
+  pub start : State
+  pub step : (t byte : ℕ) → State → State
+  -- the words as they stand, and the value that a word stands for
+  pub words : State → List ℕ
+  pub value : ℕ → ℕ
+  pub log : State → List Entry
+  pub answers : State → List Entry
+  -- of a process: how many rows it has begun, which row it has open, and the answer that it has stored for it
+  pub begun : (p : ℕ) → State → ℕ
+  pub opened : (p : ℕ) → State → Opened
+  pub stored : (p : ℕ) → State → Maybe
+
 module _ (rows : List Row) where
   -- the process whose row k is, and the word that row k is on
   abbrev pub ownerOf : ℕ → ℕ
@@ -71,55 +82,54 @@ module _ (rows : List Row) where
   abbrev pub wordOf : ℕ → List ℕ → ℕ
   wordOf k words = getD words (rowNumbered rows k .word) 0
 
-  -- "A process's rows are carried out in file order": row k has been begun if its process has begun more rows than it has in front of k
-  abbrev pub Begun : ℕ → State → Type 0
-  Begun k s = k < first rows (ownerOf k) + procAt (ownerOf k) s .begun
-
-  abbrev pub StillOpen : ℕ → State → Type 0
-  StillOpen k s = procAt (ownerOf k) s .opened ≡ Open k
-
-  pub record Ended (k : ℕ) (s : State) : Type 0 where
-    pub begun : Begun k s
-    pub shut : StillOpen k s → ⊥
-
-  -- "has stored its answer": the row is open, and the answer is kept with it
-  abbrev pub Stored : ℕ → Maybe → State → Type 0
-  Stored k answer s = procAt (ownerOf k) s .stored ≡ answer
-
-  -- the byte at position t swaps for row k: the process that it names has row k open, and the row's word is changed by it
-  unfoldable pub swapsAt : (k t byte : ℕ) → State → Bool
-  swapsAt k t byte s = isRow k (procAt (named byte) s .opened) && not (eqb (wordOf k (s .words)) (wordOf k (step rows t byte s .words)))
-
-  -- how often row k swaps while these bytes go by, the first of them at position t
-  unfoldable pub swapCount : (k t : ℕ) → List ℕ → State → ℕ
-  swapCount k t [] s = 0
-  swapCount k t (byte ∷ bytes) s = counts (swapsAt k t byte s) + swapCount k (suc t) bytes (step rows t byte s)
-
-  -- the swap that a lost one, which read word w at position a, looks for is in the log: the front-most one has this position, and whatever is
-  -- handed in for the case that there is none is not used
-  pub record Beaten (w a : ℕ) (log : List Entry) : Type 0 where
-    pub by : Entry
-    pub front-most : Found (isSwap rows w a) log by
-    pub position : (otherwise : ℕ) → firstSwap rows w a otherwise log ≡ by .position
-
 -- how often an operation that was told this has swapped: once if it was told of a successful swap, and else never
 unfoldable pub swapsTold : Maybe → ℕ
 swapsTold told = counts (isSwapped (spoken told))
 
-module _ (rows : List Row) (P : ℕ) (words schedule : List ℕ) where
-  -- the state after the first n bytes, and after all of them
-  abbrev pub stateAfter : ℕ → State
-  stateAfter n = after rows 0 (take n schedule) (begin P words)
+-- "Positions count from 0": the bytes of a schedule, the first of them at position t
+unfoldable pub through : (m : Firmware) (t : ℕ) → List ℕ → m .State → m .State
+through m t [] s = s
+through m t (byte ∷ bytes) s = through m (suc t) bytes (m .step t byte s)
 
-  abbrev pub endState : State
-  endState = after rows 0 schedule (begin P words)
+module _ (m : Firmware) (rows : List Row) where
+  -- "A process's rows are carried out in file order": row k has been begun if its process has begun more rows than it has in front of k
+  abbrev pub Begun : ℕ → m .State → Type 0
+  Begun k s = k < first rows (ownerOf rows k) + m .begun (ownerOf rows k) s
 
+  abbrev pub StillOpen : ℕ → m .State → Type 0
+  StillOpen k s = m .opened (ownerOf rows k) s ≡ Open k
+
+  pub record Ended (k : ℕ) (s : m .State) : Type 0 where
+    pub begun : Begun k s
+    pub shut : StillOpen k s → ⊥
+
+  -- "has stored its answer": the row is open, and the answer is kept with it
+  abbrev pub Stored : ℕ → Maybe → m .State → Type 0
+  Stored k answer s = m .stored (ownerOf rows k) s ≡ answer
+
+  -- the byte at position t swaps for row k: the process that it names has row k open, and the row's word is changed by it
+  unfoldable pub swapsAt : (k t byte : ℕ) → m .State → Bool
+  swapsAt k t byte s = isRow k (m .opened (named byte) s) && not (eqb (wordOf rows k (m .words s)) (wordOf rows k (m .words (m .step t byte s))))
+
+  -- how often row k swaps while these bytes go by, the first of them at position t
+  unfoldable pub swapCount : (k t : ℕ) → List ℕ → m .State → ℕ
+  swapCount k t [] s = 0
+  swapCount k t (byte ∷ bytes) s = counts (swapsAt k t byte s) + swapCount k (suc t) bytes (m .step t byte s)
+
+-- the state after the first n bytes of a schedule, and after all of them
+abbrev pub stateAfter : (m : Firmware) → List ℕ → ℕ → m .State
+stateAfter m schedule n = through m 0 (take n schedule) (m .start)
+
+abbrev pub endState : (m : Firmware) → List ℕ → m .State
+endState m schedule = through m 0 schedule (m .start)
+
+module _ (m : Firmware) (rows : List Row) (schedule : List ℕ) where
   -- how often row k has swapped at the end, and after more bytes
   abbrev pub swapsWith : ℕ → List ℕ → ℕ
-  swapsWith k more = swapCount rows k 0 (schedule ++ more) (begin P words)
+  swapsWith k more = swapCount m rows k 0 (schedule ++ more) (m .start)
 
   abbrev pub swaps : ℕ → ℕ
-  swaps k = swapCount rows k 0 schedule (begin P words)
+  swaps k = swapCount m rows k 0 schedule (m .start)
 
   -- "An ended operation stands in the log once with its answer, or was told "fail" and does not stand there." It has one answer row. Told
   -- of a successful swap (true), it swapped exactly once; told anything else, it never swapped; and whatever bytes were to follow, that would be so
@@ -135,8 +145,8 @@ module _ (rows : List Row) (P : ℕ) (words schedule : List ℕ) where
     pub unanswered : of k answers ≡ []
     pub at-most-once : swaps k ≤ 1
     pub has-swapped : swaps k ≡ 1 → (v : ℕ) × Once (ownerOf rows k) k (Is (swapSays (kindOf (rowNumbered rows k)) v)) log
-    pub has-stored : (a : Answer) → Stored rows k (Is a) endState → Once (ownerOf rows k) k (Is a) log
-    pub neither : swaps k ≡ 0 → Stored rows k None endState → of k log ≡ []
+    pub has-stored : (a : Answer) → Stored m rows k (Is a) (endState m schedule) → Once (ownerOf rows k) k (Is a) log
+    pub neither : swaps k ≡ 0 → Stored m rows k None (endState m schedule) → of k log ≡ []
 
   -- one not begun stands nowhere
   pub record Unbegun (k : ℕ) (log answers : List Entry) : Type 0 where
@@ -147,17 +157,17 @@ module _ (rows : List Row) (P : ℕ) (words schedule : List ℕ) where
   -- Demand 3 of a log, of answers, and of the values that the words have at the end
   pub record Demand3 (log answers : List Entry) (values : List ℕ) : Type 0 where
     -- 1. "carrying out the log in order on plain words gives every answer in the log and every final value"
-    pub replayed : Replayed rows (map value words) log values
+    pub replayed : Replayed rows (map (m .value) (m .words (m .start))) log values
     -- 2, 3 and 6. every row of the file has ended, is open, or has not begun; and no other row number stands in log or answers
-    pub ended : (k : ℕ) → k < length rows → Ended rows k endState → Told k log answers
-    pub still-open : (k : ℕ) → k < length rows → StillOpen rows k endState → Untold k log answers
-    pub unbegun : (k : ℕ) → k < length rows → (Begun rows k endState → ⊥) → Unbegun k log answers
+    pub ended : (k : ℕ) → k < length rows → Ended m rows k (endState m schedule) → Told k log answers
+    pub still-open : (k : ℕ) → k < length rows → StillOpen m rows k (endState m schedule) → Untold k log answers
+    pub unbegun : (k : ℕ) → k < length rows → (Begun m rows k (endState m schedule) → ⊥) → Unbegun k log answers
     pub log-rows : All (λ e. e .row < length rows) log
     pub answer-rows : All (λ e. e .row < length rows) answers
     -- 4. "real-time order is kept": k had ended when j had not begun, after n bytes; if both stand in the log, k comes first
-    pub order : (n k j : ℕ) → k < length rows → j < length rows → Ended rows k (stateAfter n) → (Begun rows j (stateAfter n) → ⊥)
+    pub order : (n k j : ℕ) → k < length rows → j < length rows → Ended m rows k (stateAfter m schedule n) → (Begun m rows j (stateAfter m schedule n) → ⊥)
         → (x y : Entry) → of k log ≡ x ∷ [] → of j log ≡ y ∷ [] → Before x y log
-    -- 5. a lost swap, false although the value read was old, finds the swap that beat it in the log as it stands when it stores its answer
-    pub beaten : (n k seen readAt triedAt : ℕ) → k < length rows → StillOpen rows k (stateAfter n)
-        → procAt (ownerOf rows k) (stateAfter n) .status ≡ Busy A5 seen readAt triedAt (Is False) → value seen ≡ rowNumbered rows k .old
-        → Beaten rows (rowNumbered rows k .word) readAt (stateAfter n .log)
+
+-- the machine meets demand 3 on this schedule: it holds of what its last state shows
+abbrev pub Meets : Firmware → List Row → List ℕ → Type 0
+Meets m rows schedule = Demand3 m rows schedule (m .log (endState m schedule)) (m .answers (endState m schedule)) (map (m .value) (m .words (endState m schedule)))

@@ -28,6 +28,7 @@ use Rattle.replay.specs.Logs.{Put, put}
 use Rattle.replay.specs.Plain.{answerOf}
 use Rattle.replay.specs.Replay.{Good, final, Right, right-right}
 use Rattle.demand3.specs.Statement.{of, Once, Logged, isRow, counts, wordOf, swapsAt, swapCount, swapsTold}
+use Rattle.demand3.specs.FlipBit.{flipBit}
 use Rattle.demand3.specs.Invariant.{due, Times, Inv, Allowed}
 use Rattle.demand3.specs.Effects.{of-put, words-length}
 use Rattle.demand3.specs.Answers.{answer-says}
@@ -90,7 +91,7 @@ module _ (rows : List Row) (k : ℕ) where
 
 module _ (rows : List Row) (start : List ℕ) (good : (k : ℕ) → Good (length start) (rowNumbered rows k))
     (owner : (p i : ℕ) → i < count rows p → rowNumbered rows (first rows p + i) .process ≡ p)
-    (Late : Times) (mono : (k a b : ℕ) → a ≤ b → Late k a → Late k b) (P k : ℕ) where
+    (Late : Times) (mono : (k a b : ℕ) → a ≤ b → Late k a → Late k b) (P : ℕ) (words : List ℕ) (k : ℕ) where
   module _ (t : ℕ) (now : (k : ℕ) → Late k t) (s : State) (v : Inv rows start Late P t s) where
     -- row j, of process p, is open and makes an allowed effect
     count-effect : (p j : ℕ) (f : Effect) (s′ : State) → Allowed rows start Late p j t s f → s′ .words ≡ wordsAfter f (s .words) → s′ .log ≡ logAfter f (s .log)
@@ -114,7 +115,7 @@ module _ (rows : List Row) (start : List ℕ) (good : (k : ℕ) → Good (length
             (ap (swapsOf k) l ∙ swapsOf-put k e (put e (s .log) (v .global .sorted)) (a .row ∙ eqb-true j k q) ∙ ap (λ c. counts c + swapsOf k (s .log)) (a .truly))
         go false q = not-counted refl (ap (swapsOf k) l ∙ swapsOf-other k e (put e (s .log) (v .global .sorted)) (λ m. eqb-false j k q (sym (a .row) ∙ m)))
 
-    count-step : (byte : ℕ) → swapsOf k (step rows t byte s .log) ≡ counts (swapsAt rows k t byte s) + swapsOf k (s .log)
+    count-step : (byte : ℕ) → swapsOf k (step rows t byte s .log) ≡ counts (swapsAt (flipBit rows P words) rows k t byte s) + swapsOf k (s .log)
     unfolding swapsAt
     count-step byte = go (does rows start good owner Late mono P t now s v byte)
       where
@@ -127,11 +128,11 @@ module _ (rows : List Row) (start : List ℕ) (good : (k : ℕ) → Good (length
             subst (λ o. swapsOf k (s′ .log) ≡ counted rows k (isRow k o) s s′ + swapsOf k (s .log)) (sym o) (count-effect (named byte) (first rows (named byte) + j) f s′ a w l)
 
   pub count-after : (t : ℕ) (bytes : List ℕ) (s : State) → ((k a : ℕ) → t ≤ a → Late k a) → Inv rows start Late P t s
-      → swapsOf k (after rows t bytes s .log) ≡ swapCount rows k t bytes s + swapsOf k (s .log)
+      → swapsOf k (after rows t bytes s .log) ≡ swapCount (flipBit rows P words) rows k t bytes s + swapsOf k (s .log)
   unfolding after swapCount
   count-after t [] s now v = sym (zero-add (swapsOf k (s .log)))
   count-after t (byte ∷ bytes) s now v =
-      let this : swapsOf k (step rows t byte s .log) ≡ counts (swapsAt rows k t byte s) + swapsOf k (s .log) = count-step t (λ k. now k t (omega arith)) s v byte in
+      let this : swapsOf k (step rows t byte s .log) ≡ counts (swapsAt (flipBit rows P words) rows k t byte s) + swapsOf k (s .log) = count-step t (λ k. now k t (omega arith)) s v byte in
       let rest = count-after (suc t) bytes (step rows t byte s) (λ k a g. now k a (omega arith)) (inv-step rows start good owner Late mono t (λ k. now k t (omega arith)) s P v byte) in
       omega arith
 

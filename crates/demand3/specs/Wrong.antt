@@ -1,5 +1,5 @@
--- Three wrong machines, held against demand 3. Each differs from the machine in one rule, and each has a short run whose log, answers and words
--- break the statement, by computation: so it is not a statement that any machine would meet.
+-- Three wrong machines, held against demand 3, which is said of each one's own states. Each differs from the paper's machine in one rule, and each
+-- has a short run that breaks the statement, by computation: so it is not a statement that any machine would meet.
 use Prim.Native.Nat.{ℕ, suc, _+_, _<_}
 use mathlib.Core.Path.{_≡_, refl, sym, _∙_, ap, subst}
 use mathlib.Core.Bool.{cond, false}
@@ -10,6 +10,7 @@ use lib.ListN.{getD, replicate}
 use Rattle.runfile.specs.declared.Row.{Row}
 use Rattle.runfile.specs.Operations.{rowNumbered, first, count, names}
 use Rattle.runfile.specs.Actions.{Action, step as steps, crash as crashes, wake as wakes, crashAll as crashesAll, none as idles, action, named}
+use Rattle.rows.specs.declared.Entry.{Entry}
 use Rattle.word.specs.Word.{value, valueIn, bitIn, swappedIn, bitOf, turnOf, flipsIn}
 use Rattle.rows.specs.Entries.{isSwapped}
 use Rattle.rows.specs.Log.{onePast, place, insert, isSwap, firstSwap}
@@ -27,7 +28,8 @@ use Rattle.machine.specs.Records.{with-status, with-checkpoint, started, rowOpe
 use Rattle.machine.specs.Steps.{spoken, tried, storing, decide, stepTurn}
 use Rattle.machine.specs.Machine.{State, Move, moveOf, applied, apply, procAt, turn, act, step, after, begin}
 use Rattle.replay.specs.Plain.{answerOf, leaves}
-use Rattle.demand3.specs.Statement.{of, Once, Logged, ownerOf, StillOpen, Ended, Demand3}
+use Rattle.demand3.specs.Statement.{Firmware, of, Once, Logged, ownerOf, through, Ended, endState, Meets}
+use Rattle.demand3.specs.FlipBit.{machineOf}
 use Rattle.machine.specs.Laws.{closed-open}
 
 -- A machine whose steps come to something else: `rule` changes what a step of a process on a row comes to, the row's word being `now` and
@@ -47,9 +49,12 @@ module _ (rule : Row → (now next : ℕ) → Process → Turn → Turn) (rows :
   actBy t byte crashesAll s = step rows t byte s
   actBy t byte idles s = step rows t byte s
 
-  pub afterBy : ℕ → List ℕ → State → State
-  afterBy t [] s = s
-  afterBy t (byte ∷ bytes) s = afterBy (suc t) bytes (actBy t byte (action byte) s)
+  pub stepBy : (t byte : ℕ) → State → State
+  stepBy t byte s = actBy t byte (action byte) s
+
+  -- that machine, for P processes and these start words
+  abbrev pub wrong : ℕ → List ℕ → Firmware
+  wrong P words = machineOf stepBy P words
 
 -- a row that compares and swaps on word 0
 pub swap : (process old new : ℕ) → Row
@@ -74,35 +79,48 @@ captureRows = swap 0 7 8 ∷ swap 1 7 8 ∷ []
 pub captureSchedule : List ℕ
 captureSchedule = replicate 6 0x00 ++ (replicate 7 0x01 ++ (0x10 ∷ 0x20 ∷ replicate 5 0x00))
 
+abbrev pub capturing : Firmware
+capturing = wrong byValue captureRows 2 (7 ∷ [])
+
 pub captured : State
-captured = afterBy byValue captureRows 0 captureSchedule (begin 2 (7 ∷ []))
+captured = endState capturing captureSchedule
 
--- the machine itself has ended worker 0's row after these bytes; the wrong one has told it true, and has only worker 1's swap in its log
-row-ended : Ended captureRows 0 (after captureRows 0 captureSchedule (begin 2 (7 ∷ [])))
-unfolding captureRows captureSchedule swap rowNumbered first count valueIn bitIn swappedIn bitOf turnOf flipsIn isSwapped onePast place insert spoken tried storing decide stepTurn applied apply procAt turn act step after begin
-row-ended = record { begun = subst (λ n. 0 < n) (sym begun) (omega arith); shut = λ o. closed-open (sym shut ∙ o) }
-  where
-    begun : first captureRows 0 + procAt 0 (after captureRows 0 captureSchedule (begin 2 (7 ∷ []))) .begun ≡ 1
-    begun = refl
+-- it has ended worker 0's row and told it true, and has only worker 1's swap in its log
+row-begun : first captureRows 0 + procAt 0 captured .begun ≡ 1
+unfolding captured captureRows captureSchedule swap byValue recovering turnBy actBy stepBy through of rowNumbered first count valueIn bitIn swappedIn bitOf turnOf flipsIn isSwapped onePast place insert spoken tried storing decide stepTurn applied apply procAt turn act step after begin
+row-begun = refl
 
-    shut : procAt 0 (after captureRows 0 captureSchedule (begin 2 (7 ∷ []))) .opened ≡ Closed
-    shut = refl
+row-shut : procAt 0 captured .opened ≡ Closed
+unfolding captured captureRows captureSchedule swap byValue recovering turnBy actBy stepBy through of rowNumbered first count valueIn bitIn swappedIn bitOf turnOf flipsIn isSwapped onePast place insert spoken tried storing decide stepTurn applied apply procAt turn act step after begin
+row-shut = refl
+
+row-ended : Ended capturing captureRows 0 captured
+unfolding captureRows swap rowNumbered
+row-ended = record { begun = subst (λ n. 0 < n) (sym row-begun) (omega arith); shut = λ o. closed-open (sym row-shut ∙ o) }
 
 told-true : of 0 (captured .answers) ≡ record { position = 19; process = 0; row = 0; verdict = 1; value = 0 } ∷ []
-unfolding captured captureRows captureSchedule swap byValue recovering turnBy actBy afterBy of rowNumbered first count valueIn bitIn swappedIn bitOf turnOf flipsIn isSwapped onePast place insert spoken tried storing decide stepTurn applied apply procAt turn act step after begin
+unfolding captured captureRows captureSchedule swap byValue recovering turnBy actBy stepBy through of rowNumbered first count valueIn bitIn swappedIn bitOf turnOf flipsIn isSwapped onePast place insert spoken tried storing decide stepTurn applied apply procAt turn act step after begin
 told-true = refl
 
 not-logged : of 0 (captured .log) ≡ []
-unfolding captured captureRows captureSchedule swap byValue recovering turnBy actBy afterBy of rowNumbered first count valueIn bitIn swappedIn bitOf turnOf flipsIn isSwapped onePast place insert spoken tried storing decide stepTurn applied apply procAt turn act step after begin
+unfolding captured captureRows captureSchedule swap byValue recovering turnBy actBy stepBy through of rowNumbered first count valueIn bitIn swappedIn bitOf turnOf flipsIn isSwapped onePast place insert spoken tried storing decide stepTurn applied apply procAt turn act step after begin
 not-logged = refl
 
-pub capture-breaks : Demand3 captureRows 2 (7 ∷ []) captureSchedule (captured .log) (captured .answers) (map value (captured .words)) → ⊥
-unfolding captureRows spoken
-capture-breaks d = let t = d .ended 0 (omega arith) row-ended in go (t .answer) (t .answered) (t .logged)
-  where
-    go : (m : Maybe) (a : Once (ownerOf captureRows 0) 0 m (captured .answers)) → Logged (ownerOf captureRows 0) 0 m (captured .log) → ⊥
-    go None a l = let same = sym told-true ∙ a .once in let x : 1 ≡ a .entry .verdict = cc in let y : a .entry .verdict ≡ 2 = ap (λ d. d .verdict) (a .says-so) in omega arith
-    go (Is x) a l = let same = sym not-logged ∙ l .once in let z : _≡_ {A = ℕ} 0 1 = cc in omega arith
+-- whatever was told true, by a machine that has nothing of it in its log
+told-alone : (p k : ℕ) (e : Entry) (log answers : List Entry) → of k answers ≡ e ∷ [] → e .verdict ≡ 1 → of k log ≡ [] → (m : Maybe) → Once p k m answers → Logged p k m log → ⊥
+unfolding spoken
+told-alone p k e log answers told v none None a l =
+    let same : e ∷ [] ≡ a .entry ∷ [] = sym told ∙ a .once in
+    let x : e .verdict ≡ a .entry .verdict = cc in
+    let y : a .entry .verdict ≡ 2 = ap (λ d. d .verdict) (a .says-so) in
+    omega arith
+told-alone p k e log answers told v none (Is x) a l = let same : [] ≡ l .entry ∷ [] = sym none ∙ l .once in let z : _≡_ {A = ℕ} 0 1 = cc in omega arith
+
+pub capture-breaks : Meets capturing captureRows captureSchedule → ⊥
+unfolding captured captureRows
+capture-breaks d =
+    let t = d .ended 0 (omega arith) row-ended in
+    told-alone (ownerOf captureRows 0) 0 (record { position = 19; process = 0; row = 0; verdict = 1; value = 0 }) (captured .log) (captured .answers) told-true refl not-logged (t .answer) (t .answered) (t .logged)
 
 -- 2. A lost swap logged at its A4's position in place of that of the swap that beat it
 pub atItsA4 : Row → (now next : ℕ) → Process → Turn → Turn
@@ -120,11 +138,12 @@ backRows = swap 0 7 8 ∷ swap 1 7 9 ∷ swap 2 9 7 ∷ []
 pub backSchedule : List ℕ
 backSchedule = replicate 4 0x00 ++ (replicate 7 0x01 ++ (replicate 7 0x02 ++ replicate 4 0x00))
 
-pub back : State
-back = afterBy atItsA4 backRows 0 backSchedule (begin 3 (7 ∷ []))
+abbrev pub placing : Firmware
+placing = wrong atItsA4 backRows 3 (7 ∷ [])
 
-pub back-breaks : Demand3 backRows 3 (7 ∷ []) backSchedule (back .log) (back .answers) (map value (back .words)) → ⊥
-unfolding back backRows backSchedule swap atItsA4 turnBy actBy afterBy rowNumbered first count valueIn bitIn swappedIn bitOf turnOf flipsIn isSwapped onePast place insert spoken tried storing decide stepTurn applied apply procAt turn act step after begin names isSwap firstSwap answerOf leaves
+-- at that place the replay says true
+pub back-breaks : Meets placing backRows backSchedule → ⊥
+unfolding backRows backSchedule swap atItsA4 turnBy actBy stepBy through rowNumbered first count valueIn bitIn swappedIn bitOf turnOf flipsIn isSwapped onePast place insert spoken tried storing decide stepTurn applied apply procAt turn act step after begin names isSwap firstSwap answerOf leaves
 back-breaks d = let z : _≡_ {A = ℕ} 0 1 = ap (λ d. d .verdict) (d .replayed .1 .1 .0) in omega arith
 
 -- 3. The row opened before the checkpoint is cleared
@@ -145,18 +164,35 @@ earlyRows = swap 0 7 8 ∷ swap 0 8 9 ∷ []
 pub earlySchedule : List ℕ
 earlySchedule = replicate 11 0x00 ++ (0x10 ∷ 0x20 ∷ replicate 5 0x00)
 
+abbrev pub opening : Firmware
+opening = wrong opensEarly earlyRows 1 (7 ∷ [])
+
 pub early : State
-early = afterBy opensEarly earlyRows 0 earlySchedule (begin 1 (7 ∷ []))
+early = endState opening earlySchedule
 
--- the machine itself has the second row open after these bytes; the wrong one has told it true
-row-open : StillOpen earlyRows 1 (after earlyRows 0 earlySchedule (begin 1 (7 ∷ [])))
-unfolding earlyRows earlySchedule swap rowNumbered first count valueIn bitIn swappedIn bitOf turnOf flipsIn isSwapped onePast place insert spoken tried storing decide stepTurn applied apply procAt turn act step after begin
-row-open = refl
-
+-- it has ended the second row and told it true, and has only the first one's swap in its log
 told-early : of 1 (early .answers) ≡ record { position = 17; process = 0; row = 1; verdict = 1; value = 0 } ∷ []
-unfolding early earlyRows earlySchedule swap opensEarly announcing turnBy actBy afterBy of rowNumbered first count valueIn bitIn swappedIn bitOf turnOf flipsIn isSwapped onePast place insert spoken tried storing decide stepTurn applied apply procAt turn act step after begin
+unfolding early earlyRows earlySchedule swap opensEarly announcing turnBy actBy stepBy through of rowNumbered first count valueIn bitIn swappedIn bitOf turnOf flipsIn isSwapped onePast place insert spoken tried storing decide stepTurn applied apply procAt turn act step after begin
 told-early = refl
 
-pub early-breaks : Demand3 earlyRows 1 (7 ∷ []) earlySchedule (early .log) (early .answers) (map value (early .words)) → ⊥
-unfolding earlyRows
-early-breaks d = let same = sym told-early ∙ d .still-open 1 (omega arith) row-open .unanswered in let z : _≡_ {A = ℕ} 0 1 = cc in omega arith
+early-begun : first earlyRows 0 + procAt 0 early .begun ≡ 2
+unfolding early earlyRows earlySchedule swap opensEarly announcing turnBy actBy stepBy through of rowNumbered first count valueIn bitIn swappedIn bitOf turnOf flipsIn isSwapped onePast place insert spoken tried storing decide stepTurn applied apply procAt turn act step after begin
+early-begun = refl
+
+early-shut : procAt 0 early .opened ≡ Closed
+unfolding early earlyRows earlySchedule swap opensEarly announcing turnBy actBy stepBy through of rowNumbered first count valueIn bitIn swappedIn bitOf turnOf flipsIn isSwapped onePast place insert spoken tried storing decide stepTurn applied apply procAt turn act step after begin
+early-shut = refl
+
+early-ended : Ended opening earlyRows 1 early
+unfolding earlyRows swap rowNumbered
+early-ended = record { begun = subst (λ n. 1 < n) (sym early-begun) (omega arith); shut = λ o. closed-open (sym early-shut ∙ o) }
+
+early-unlogged : of 1 (early .log) ≡ []
+unfolding early earlyRows earlySchedule swap opensEarly announcing turnBy actBy stepBy through of rowNumbered first count valueIn bitIn swappedIn bitOf turnOf flipsIn isSwapped onePast place insert spoken tried storing decide stepTurn applied apply procAt turn act step after begin
+early-unlogged = refl
+
+pub early-breaks : Meets opening earlyRows earlySchedule → ⊥
+unfolding early earlyRows
+early-breaks d =
+    let t = d .ended 1 (omega arith) early-ended in
+    told-alone (ownerOf earlyRows 1) 1 (record { position = 17; process = 0; row = 1; verdict = 1; value = 0 }) (early .log) (early .answers) told-early refl early-unlogged (t .answer) (t .answered) (t .logged)
