@@ -169,4 +169,4 @@ module _ (rows : List Row) (start : List ℕ) where
   Allowed Late p k t s quiet = Unit {0}
   Allowed Late p k t s (swaps w x e) = Swapping Late p k t s w x e
   Allowed Late p k t s (logs e) = Logging Late k t s e
-  Allowed Late p k t s (replies e) = (e .row ≡ k) × (e .row < length rows)
+  Allowed Late p k t s (replies e) = (e .row ≡ k) × (e .row < length rows) × (e .position ≡ t)

@@ -211,7 +211,7 @@ due-lost says true = refl
 due-lost says false = refl
 
 module _ (rows : List Row) (start : List ℕ) (good : (k : ℕ) → Good (length start) (rowNumbered rows k)) (Late : Times) (mono : (k a b : ℕ) → a ≤ b → Late k a → Late k b) where
-  module _ (p t : ℕ) (s : State) (r : Process) (g : Global rows start Late t s) (l : Local rows start Late p t s r) (now : (k : ℕ) → Late k t) (k : ℕ) (o : r .opened ≡ Open k) where
+  module _ (p t : ℕ) (s : State) (r : Process) (g : Global rows start Late t s) (l : Local rows start Late p t s r) (k : ℕ) (o : r .opened ≡ Open k) (now : Late k t) where
     abbrev word : ℕ
     word = wordOf rows k (s .words)
 
@@ -242,7 +242,7 @@ module _ (rows : List Row) (start : List ℕ) (good : (k : ℕ) → Good (length
     seen-now =
         record {
           past = omega arith;
-          late = now k;
+          late = now;
           then =
               ap (λ l. getD (final rows start l) (rowNumbered rows k .word) 0) (early-all t (s .log) (all-map (λ e. e .position < t) (λ e. e .position ≤ t) (λ e h. omega arith) (s .log) (g .below)))
               ∙ plain rows start good Late t s g (rowNumbered rows k .word);
@@ -289,7 +289,7 @@ module _ (rows : List Row) (start : List ℕ) (good : (k : ℕ) → Good (length
     own-A6 : (x a ta : ℕ) (ans : Maybe) → AtStage rows start Late p k t (s .words) (s .log) r A6 x a ans → Own rows start Late p t s r (moveOf rows (s .log) p t k (rowNumbered rows k .word) r (decide (rowNumbered rows k) p t word r A6 x a ta ans))
     unfolding decide due
     own-A6 x a ta ans h =
-        make-busy (record { process = closed r; effect = replies (entry t p k ans) }) (refl, named) (λ ps. own-close rows start Late p t s r l k o (entry t p k ans) ans ps refl refl refl (rw (h .1, h .2)))
+        make-busy (record { process = closed r; effect = replies (entry t p k ans) }) (refl, named, refl) (λ ps. own-close rows start Late p t s r l k o (entry t p k ans) ans ps refl refl refl (rw (h .1, h .2)))
 
     own-V1 : (x a ta : ℕ) (ans : Maybe) → Own rows start Late p t s r (moveOf rows (s .log) p t k (rowNumbered rows k .word) r (decide (rowNumbered rows k) p t word r V1 x a ta ans))
     unfolding decide
@@ -323,12 +323,12 @@ module _ (rows : List Row) (start : List ℕ) (good : (k : ℕ) → Good (length
     own-V5 : (x a ta : ℕ) (ans : Maybe) → AtStage rows start Late p k t (s .words) (s .log) r V5 x a ans → Own rows start Late p t s r (moveOf rows (s .log) p t k (rowNumbered rows k .word) r (decide (rowNumbered rows k) p t word r V5 x a ta ans))
     unfolding decide due
     own-V5 x a ta ans h =
-        make-busy (record { process = closed r; effect = replies (entry t p k (r .stored)) }) (refl, named) (λ ps. own-close rows start Late p t s r l k o (entry t p k (r .stored)) (r .stored) ps refl refl refl (rw (h .1)))
+        make-busy (record { process = closed r; effect = replies (entry t p k (r .stored)) }) (refl, named, refl) (λ ps. own-close rows start Late p t s r l k o (entry t p k (r .stored)) (r .stored) ps refl refl refl (rw (h .1)))
 
     own-V6 : (x a ta : ℕ) (ans : Maybe) → AtStage rows start Late p k t (s .words) (s .log) r V6 x a ans → Own rows start Late p t s r (moveOf rows (s .log) p t k (rowNumbered rows k .word) r (decide (rowNumbered rows k) p t word r V6 x a ta ans))
     unfolding decide
     own-V6 x a ta ans h =
-        make-busy (record { process = closed r; effect = replies (entry t p k None) }) (refl, named) (λ ps. own-close rows start Late p t s r l k o (entry t p k None) None ps refl refl refl (rw (h .0) (h .1)))
+        make-busy (record { process = closed r; effect = replies (entry t p k None) }) (refl, named, refl) (λ ps. own-close rows start Late p t s r l k o (entry t p k None) None ps refl refl refl (rw (h .0) (h .1)))
 
     -- A4: the swap succeeds
     abbrev swapSaid : ℕ → Answer
@@ -340,7 +340,7 @@ module _ (rows : List Row) (start : List ℕ) (good : (k : ℕ) → Good (length
         let q : word ≡ x = eqb-true word x e in
         record {
           at = refl;
-          late = now k;
+          late = now;
           row = refl;
           truly = says-swapped (kindOf (rowNumbered rows k)) (value x);
           word = refl;

@@ -72,9 +72,9 @@ module _ (rows : List Row) (start : List ℕ) (good : (k : ℕ) → Good (length
   of-effect p k t j (replies e) s so a n = refl
 
   module _ (P p i : ℕ) (fits : i < count rows p) where
-    kept-step : (t : ℕ) (now : (k : ℕ) → Late k t) (s : State) (v : Inv rows start Late P t s) → Passed rows p i (procAt p s) → (byte : ℕ)
+    kept-step : (t : ℕ) (s : State) (now : (p k : ℕ) → procAt p s .opened ≡ Open k → Late k t) (v : Inv rows start Late P t s) → Passed rows p i (procAt p s) → (byte : ℕ)
         → of (first rows p + i) (step rows t byte s .log) ≡ of (first rows p + i) (s .log)
-    kept-step t now s v passed byte = go (does rows start good owner Late mono P t now s v byte)
+    kept-step t s now v passed byte = go (does rows start good owner Late mono P t s now v byte)
       where
         q : ℕ
         q = named byte
@@ -84,14 +84,14 @@ module _ (rows : List Row) (start : List ℕ) (good : (k : ℕ) → Good (length
         other j g o false c e = distinct rows start good owner Late mono p q i j fits g (eqb-false q p c) (sym e)
 
         go : Does rows start Late q t s (step rows t byte s) → of (first rows p + i) (step rows t byte s .log) ≡ of (first rows p + i) (s .log)
-        go (nothing w l) = ap (of (first rows p + i)) l
-        go (allowed j f g o a w l) = ap (of (first rows p + i)) l ∙ of-effect q (first rows q + j) t (first rows p + i) f s (v .global .sorted) a (λ e. other j g o (eqb q p) refl e)
+        go (nothing w l n) = ap (of (first rows p + i)) l
+        go (allowed j f g o a w l n) = ap (of (first rows p + i)) l ∙ of-effect q (first rows q + j) t (first rows p + i) f s (v .global .sorted) a (λ e. other j g o (eqb q p) refl e)
 
     pub kept-after : (t : ℕ) (bytes : List ℕ) (s : State) → ((k a : ℕ) → t ≤ a → Late k a) → Inv rows start Late P t s → Passed rows p i (procAt p s)
         → of (first rows p + i) (after rows t bytes s .log) ≡ of (first rows p + i) (s .log)
     unfolding after
     kept-after t [] s now v passed = refl
     kept-after t (byte ∷ bytes) s now v passed =
-        kept-after (suc t) bytes (step rows t byte s) (λ k a g. now k a (omega arith)) (inv-step rows start good owner Late mono t (λ k. now k t (omega arith)) s P v byte)
+        kept-after (suc t) bytes (step rows t byte s) (λ k a g. now k a (omega arith)) (inv-step rows start good owner Late mono t s (λ p k o. now k t (omega arith)) P v byte)
         (passed-after rows p i t (byte ∷ []) s passed)
-        ∙ kept-step t (λ k. now k t (omega arith)) s v passed byte
+        ∙ kept-step t s (λ p k o. now k t (omega arith)) v passed byte

@@ -51,24 +51,24 @@ module _ (rows : List Row) (start : List ℕ) (good : (k : ℕ) → Good (length
   pub distinct : (p q i j : ℕ) → i < count rows p → j < count rows q → (q ≡ p → ⊥) → first rows p + i ≡ first rows q + j → ⊥
   distinct p q i j h g n e = n (sym (owner q j g) ∙ ap (λ k. rowNumbered rows k .process) (sym e) ∙ owner p i h)
 
-  module _ (t : ℕ) (now : (k : ℕ) → Late k t) (s : State) where
+  module _ (t : ℕ) (s : State) (now : (p k : ℕ) → procAt p s .opened ≡ Open k → Late k t) where
     -- nothing changes for p but the time
     local-same : (p : ℕ) (ps : List Process) (r : Process) → Local rows start Late p t s r → Local rows start Late p (suc t) (apply quiet ps s) r
     local-same p ps r l = local-frame rows start Late Late p t (suc t) s (apply quiet ps s) r (frame-quiet rows start good Late p t ps s r) l
 
-    pub own-turn : (p : ℕ) (r : Process) → Global rows start Late t s → Local rows start Late p t s r → (st : Status) → StatusOk rows start Late p t (s .words) (s .log) r st → Own rows start Late p t s r (turn rows p t (s .words) (s .log) r st)
+    pub own-turn : (p : ℕ) (r : Process) → ((k : ℕ) → r .opened ≡ Open k → Late k t) → Global rows start Late t s → Local rows start Late p t s r → (st : Status) → StatusOk rows start Late p t (s .words) (s .log) r st → Own rows start Late p t s r (turn rows p t (s .words) (s .log) r st)
     unfolding turn stepTurn
-    own-turn p r g l Down h = calm refl (λ ps. local-same p ps r l)
-    own-turn p r g l Idle h = go (ltb (r .begun) (count rows p)) refl
+    own-turn p r late g l Down h = calm refl (λ ps. local-same p ps r l)
+    own-turn p r late g l Idle h = go (ltb (r .begun) (count rows p)) refl
       where
         go : (c : Bool) → ltb (r .begun) (count rows p) ≡ c → Own rows start Late p t s r (moveOf rows (s .log) p t (rowOpen (r .opened)) (rowNumbered rows (rowOpen (r .opened)) .word) r (cond c (Quiet (with-stored N2 None r)) Still))
         go true q = calm refl (λ ps. own-closed rows start Late p t s r l h (with-stored N2 None r) refl refl ps (h, ltb-true (r .begun) (count rows p) q, refl))
         go false q = calm refl (λ ps. local-same p ps r l)
-    own-turn p r g l N2 h = calm refl (λ ps. own-closed rows start Late p t s r l (h .0) (with-checkpoint N3 false r) refl refl ps (h .0, h .1, h .2, refl))
-    own-turn p r g l N3 h = calm refl (λ ps. own-start rows start Late p t s r l (h .0) (h .1) (h .2) (h .3) ps)
-    own-turn p r g l (Busy stage x a ta ans) (working k o h) =
+    own-turn p r late g l N2 h = calm refl (λ ps. own-closed rows start Late p t s r l (h .0) (with-checkpoint N3 false r) refl refl ps (h .0, h .1, h .2, refl))
+    own-turn p r late g l N3 h = calm refl (λ ps. own-start rows start Late p t s r l (h .0) (h .1) (h .2) (h .3) ps)
+    own-turn p r late g l (Busy stage x a ta ans) (working k o h) =
         subst (λ o. Own rows start Late p t s r (moveOf rows (s .log) p t (rowOpen o) (rowNumbered rows (rowOpen o) .word) r (atWork (rowNumbered rows (rowOpen o)) p t (getD (s .words) (rowNumbered rows (rowOpen o) .word) 0) r o stage x a ta ans))) (sym o)
-        (own-stage rows start good Late mono p t s r g l now k o stage x a ta ans h)
+        (own-stage rows start good Late mono p t s r g l k o (late k o) stage x a ta ans h)
 
     own-crash : (p : ℕ) (r : Process) → Local rows start Late p t s r → Own rows start Late p t s r (alone (crashed r))
     own-crash p r l = calm refl (λ ps. own-status rows start Late p t s r l Down ps tt)
@@ -161,7 +161,7 @@ module _ (rows : List Row) (start : List ℕ) (good : (k : ℕ) → Good (length
           go : (c : Bool) → ltb p P ≡ c → Inv rows start Late P (suc t) (applied p (turn rows p t (s .words) (s .log) (procAt p s) (procAt p s .status)) s)
           go true e =
               let h : p < P = ltb-true p P e in
-              inv-own p (turn rows p t (s .words) (s .log) (procAt p s) (procAt p s .status)) h (own-turn p (procAt p s) (v .global) (v .local p h) (procAt p s .status) (v .local p h .work))
+              inv-own p (turn rows p t (s .words) (s .log) (procAt p s) (procAt p s .status)) h (own-turn p (procAt p s) (now p) (v .global) (v .local p h) (procAt p s .status) (v .local p h .work))
           go false e =
               let h : P ≤ p = ltb-false p P e in
               subst (λ r. Inv rows start Late P (suc t) (applied p (turn rows p t (s .words) (s .log) r (r .status)) s)) (sym (absent p h))
@@ -189,7 +189,7 @@ module _ (rows : List Row) (start : List ℕ) (good : (k : ℕ) → Good (length
   inv-after P t [] s now v = rw (add-zero t) v
   inv-after P t (byte ∷ bytes) s now v =
       rw (add-suc t (length bytes), ← (suc-add t (length bytes)))
-      (inv-after P (suc t) bytes (step rows t byte s) (λ k a h. now k a (omega arith)) (inv-step t (λ k. now k t (omega arith)) s P v byte))
+      (inv-after P (suc t) bytes (step rows t byte s) (λ k a h. now k a (omega arith)) (inv-step t s (λ p k o. now k t (omega arith)) P v byte))
 
 pub inv-begin : (rows : List Row) (Late : Times) (P : ℕ) (words : List ℕ) → Inv rows (map value words) Late P 0 (begin P words)
 unfolding begin procAt final of

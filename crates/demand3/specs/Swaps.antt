@@ -21,6 +21,7 @@ use Rattle.rows.specs.Entries.{said, isSwapped}
 use Rattle.machine.specs.declared.Answer.{Answer}
 use Rattle.machine.specs.declared.Maybe.{Maybe}
 use Rattle.machine.specs.declared.Maybe.the-variants.{None, Is}
+use Rattle.machine.specs.declared.Opened.the-variants.{Open}
 use Rattle.machine.specs.Steps.{spoken, swapSays}
 use Rattle.machine.specs.Machine.{State, Effect, quiet, swaps, logs, replies, wordsAfter, logAfter, procAt, step, after}
 use Rattle.replay.specs.Lists.{keep, keep-join, keep-put-yes, Found, keep-found}
@@ -29,7 +30,7 @@ use Rattle.replay.specs.Plain.{answerOf}
 use Rattle.replay.specs.Replay.{Good, final, Right, right-right}
 use Rattle.demand3.specs.Statement.{of, Once, Logged, isRow, counts, wordOf, swapsAt, swapCount, swapsTold}
 use Rattle.demand3.specs.FlipBit.{flipBit}
-use Rattle.demand3.specs.Invariant.{due, Times, Inv, Allowed}
+use Rattle.demand3.specs.Invariant.{due, Times, Inv, Swapping, Allowed}
 use Rattle.demand3.specs.Effects.{of-put, words-length}
 use Rattle.demand3.specs.Answers.{answer-says}
 use Rattle.demand3.specs.Preserve.{inv-step}
@@ -92,7 +93,15 @@ module _ (rows : List Row) (k : ℕ) where
 module _ (rows : List Row) (start : List ℕ) (good : (k : ℕ) → Good (length start) (rowNumbered rows k))
     (owner : (p i : ℕ) → i < count rows p → rowNumbered rows (first rows p + i) .process ≡ p)
     (Late : Times) (mono : (k a b : ℕ) → a ≤ b → Late k a → Late k b) (P : ℕ) (words : List ℕ) (k : ℕ) where
-  module _ (t : ℕ) (now : (k : ℕ) → Late k t) (s : State) (v : Inv rows start Late P t s) where
+  module _ (t : ℕ) (s : State) (now : (p k : ℕ) → procAt p s .opened ≡ Open k → Late k t) (v : Inv rows start Late P t s) where
+    -- an allowed swap changes its word
+    pub changed : (p j x n : ℕ) (e : Entry) (s′ : State) → Swapping rows start Late p j t s x n e → s′ .words ≡ set (s .words) x n → eqb (wordOf rows j (s .words)) (wordOf rows j (s′ .words)) ≡ false
+    changed p j x n e s′ a w =
+        let inside : rowNumbered rows j .word < length (s .words) = rw (words-length rows start good Late t s (v .global)) (good j .inside) in
+        let is : wordOf rows j (s′ .words) ≡ swapped p (newOf (rowNumbered rows j) (value (wordOf rows j (s .words)))) (wordOf rows j (s .words)) =
+        ap (λ ws. getD ws (rowNumbered rows j .word) 0) (w ∙ ap (λ i. set (s .words) i n) (a .word)) ∙ getD-set-same (s .words) (rowNumbered rows j .word) n 0 inside ∙ a .new in
+        ne-eqb (wordOf rows j (s .words)) (wordOf rows j (s′ .words)) (λ m. turns rows j p (newOf (rowNumbered rows j) (value (wordOf rows j (s .words)))) (wordOf rows j (s .words)) (good j .fits (value (wordOf rows j (s .words)))) (m ∙ is))
+
     -- row j, of process p, is open and makes an allowed effect
     count-effect : (p j : ℕ) (f : Effect) (s′ : State) → Allowed rows start Late p j t s f → s′ .words ≡ wordsAfter f (s .words) → s′ .log ≡ logAfter f (s .log)
         → swapsOf k (s′ .log) ≡ counted rows k (eqb j k) s s′ + swapsOf k (s .log)
@@ -101,30 +110,22 @@ module _ (rows : List Row) (start : List ℕ) (good : (k : ℕ) → Good (length
     count-effect p j (logs e) s′ a w l = not-counted (unchanged rows k (eqb j k) s s′ w) (ap (swapsOf k) l ∙ swapsOf-false k e (put e (s .log) (v .global .sorted)) (a .no-swap))
     count-effect p j (swaps x n e) s′ a w l = go (eqb j k) refl
       where
-        changed : j ≡ k → eqb (wordOf rows k (s .words)) (wordOf rows k (s′ .words)) ≡ false
-        changed q =
-            let inside : rowNumbered rows k .word < length (s .words) = rw (words-length rows start good Late t s (v .global)) (good k .inside) in
-            let is : wordOf rows k (s′ .words) ≡ swapped p (newOf (rowNumbered rows k) (value (wordOf rows k (s .words)))) (wordOf rows k (s .words)) =
-            ap (λ ws. getD ws (rowNumbered rows k .word) 0) (w ∙ ap (λ j. set (s .words) j n) (a .word ∙ ap (λ j. rowNumbered rows j .word) q)) ∙ getD-set-same (s .words) (rowNumbered rows k .word) n 0 inside
-            ∙ a .new ∙ ap (λ j. swapped p (newOf (rowNumbered rows j) (value (wordOf rows j (s .words)))) (wordOf rows j (s .words))) q in
-            ne-eqb (wordOf rows k (s .words)) (wordOf rows k (s′ .words)) (λ m. turns rows k p (newOf (rowNumbered rows k) (value (wordOf rows k (s .words)))) (wordOf rows k (s .words)) (good k .fits (value (wordOf rows k (s .words)))) (m ∙ is))
-
         go : (c : Bool) → eqb j k ≡ c → swapsOf k (s′ .log) ≡ counted rows k c s s′ + swapsOf k (s .log)
         go true q =
-            rw (changed (eqb-true j k q))
+            rw (subst (λ j. eqb (wordOf rows j (s .words)) (wordOf rows j (s′ .words)) ≡ false) (eqb-true j k q) (changed p j x n e s′ a w))
             (ap (swapsOf k) l ∙ swapsOf-put k e (put e (s .log) (v .global .sorted)) (a .row ∙ eqb-true j k q) ∙ ap (λ c. counts c + swapsOf k (s .log)) (a .truly))
         go false q = not-counted refl (ap (swapsOf k) l ∙ swapsOf-other k e (put e (s .log) (v .global .sorted)) (λ m. eqb-false j k q (sym (a .row) ∙ m)))
 
     count-step : (byte : ℕ) → swapsOf k (step rows t byte s .log) ≡ counts (swapsAt (flipBit rows P words) rows k t byte s) + swapsOf k (s .log)
     unfolding swapsAt
-    count-step byte = go (does rows start good owner Late mono P t now s v byte)
+    count-step byte = go (does rows start good owner Late mono P t s now v byte)
       where
         s′ : State
         s′ = step rows t byte s
 
         go : Does rows start Late (named byte) t s s′ → swapsOf k (s′ .log) ≡ counted rows k (isRow k (procAt (named byte) s .opened)) s s′ + swapsOf k (s .log)
-        go (nothing w l) = not-counted (unchanged rows k (isRow k (procAt (named byte) s .opened)) s s′ w) (ap (swapsOf k) l)
-        go (allowed j f g o a w l) =
+        go (nothing w l n) = not-counted (unchanged rows k (isRow k (procAt (named byte) s .opened)) s s′ w) (ap (swapsOf k) l)
+        go (allowed j f g o a w l n) =
             subst (λ o. swapsOf k (s′ .log) ≡ counted rows k (isRow k o) s s′ + swapsOf k (s .log)) (sym o) (count-effect (named byte) (first rows (named byte) + j) f s′ a w l)
 
   pub count-after : (t : ℕ) (bytes : List ℕ) (s : State) → ((k a : ℕ) → t ≤ a → Late k a) → Inv rows start Late P t s
@@ -132,8 +133,8 @@ module _ (rows : List Row) (start : List ℕ) (good : (k : ℕ) → Good (length
   unfolding after swapCount
   count-after t [] s now v = sym (zero-add (swapsOf k (s .log)))
   count-after t (byte ∷ bytes) s now v =
-      let this : swapsOf k (step rows t byte s .log) ≡ counts (swapsAt (flipBit rows P words) rows k t byte s) + swapsOf k (s .log) = count-step t (λ k. now k t (omega arith)) s v byte in
-      let rest = count-after (suc t) bytes (step rows t byte s) (λ k a g. now k a (omega arith)) (inv-step rows start good owner Late mono t (λ k. now k t (omega arith)) s P v byte) in
+      let this : swapsOf k (step rows t byte s .log) ≡ counts (swapsAt (flipBit rows P words) rows k t byte s) + swapsOf k (s .log) = count-step t s (λ p k o. now k t (omega arith)) v byte in
+      let rest = count-after (suc t) bytes (step rows t byte s) (λ k a g. now k a (omega arith)) (inv-step rows start good owner Late mono t s (λ p k o. now k t (omega arith)) P v byte) in
       omega arith
 
 -- what stands in the log, by how often the row has swapped
