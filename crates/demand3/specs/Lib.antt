@@ -12,6 +12,8 @@ pub mod Past
 pub mod Swaps
 pub mod Order
 pub mod Lost
+pub mod Told
+pub mod Positions
 pub mod Demand
 pub mod File
 pub mod Wrong

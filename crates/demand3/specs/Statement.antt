@@ -25,6 +25,7 @@ use Rattle.machine.specs.declared.Opened.the-variants.{Closed, Open}
 use Rattle.machine.specs.Steps.{spoken, swapSays}
 use Rattle.replay.specs.Plain.{Replayed}
 use Rattle.replay.specs.Lists.{All, keep}
+use Rattle.replay.specs.Logs.{Sorted}
 
 -- the entries of row k, in the log or in the answers
 unfoldable pub of : ℕ → List Entry → List Entry
@@ -154,6 +155,21 @@ module _ (m : Firmware) (rows : List Row) (schedule : List ℕ) where
     pub unanswered : of k answers ≡ []
     pub unswapped : swaps k ≡ 0
 
+  -- In time: e is the log row of row k. Its position is that of a byte of the schedule. Whenever row k had not begun, that was before; whenever it
+  -- had ended, that was later; so the row was open when that byte came. And if e tells of a successful swap, that byte made it
+  pub record LoggedThen (k : ℕ) (e : Entry) : Type 0 where
+    pub inside : e .position < length schedule
+    pub after-begin : (n : ℕ) → (Begun m rows k (stateAfter m schedule n) → ⊥) → n < e .position
+    pub before-end : (n : ℕ) → Ended m rows k (stateAfter m schedule n) → e .position < n
+    pub open-then : StillOpen m rows k (stateAfter m schedule (e .position))
+    pub swap-then : isSwapped (said e) ≡ true → swapsAt m rows k (e .position) (getD schedule (e .position) 0) (stateAfter m schedule (e .position)) ≡ true
+
+  -- e is the answer row of row k: the byte at its position ended the row
+  pub record AnsweredThen (k : ℕ) (e : Entry) : Type 0 where
+    pub inside : e .position < length schedule
+    pub open-then : StillOpen m rows k (stateAfter m schedule (e .position))
+    pub ended-then : Ended m rows k (stateAfter m schedule (suc (e .position)))
+
   -- Demand 3 of a log, of answers, and of the values that the words have at the end
   pub record Demand3 (log answers : List Entry) (values : List ℕ) : Type 0 where
     -- 1. "carrying out the log in order on plain words gives every answer in the log and every final value"
@@ -167,6 +183,11 @@ module _ (m : Firmware) (rows : List Row) (schedule : List ℕ) where
     -- 4. "real-time order is kept": k had ended when j had not begun, after n bytes; if both stand in the log, k comes first
     pub order : (n k j : ℕ) → k < length rows → j < length rows → Ended m rows k (stateAfter m schedule n) → (Begun m rows j (stateAfter m schedule n) → ⊥)
         → (x y : Entry) → of k log ≡ x ∷ [] → of j log ≡ y ∷ [] → Before x y log
+    -- positions: the log is in order of position, swaps strictly so; each log row and each answer row has its time, and the log row's comes first
+    pub sorted : Sorted log
+    pub log-times : (k : ℕ) → k < length rows → (e : Entry) → of k log ≡ e ∷ [] → LoggedThen k e
+    pub answer-times : (k : ℕ) → k < length rows → (e : Entry) → of k answers ≡ e ∷ [] → AnsweredThen k e
+    pub log-first : (k : ℕ) → k < length rows → (x y : Entry) → of k log ≡ x ∷ [] → of k answers ≡ y ∷ [] → x .position < y .position
 
 -- the machine meets demand 3 on this schedule: it holds of what its last state shows
 abbrev pub Meets : Firmware → List Row → List ℕ → Type 0
