@@ -12,4 +12,3 @@ pub mod OneByte
 pub mod Limits
 pub mod Cut
 pub mod Absent
-pub mod Only

@@ -8,15 +8,9 @@ use super::said::entry_of;
 use rows::Sought;
 use runfile::Kind;
 use runfile::Row;
-ghost use mathlib.Core.Path.{_≡_};
-ghost use Prim.Native.Nat.{_+_, _*_, _≤_};
-ghost use lib.ListN.{length, getD, set};
-ghost use Rattle.runfile.specs.Layout.{rowOfTable};
-ghost use Rattle.runfile.specs.Operations.{rowsFrom};
-ghost use Rattle.rows.specs.Buffers.{rowsOf};
+ghost use Prim.Native.Nat.{_+_};
 ghost use Rattle.machine.specs.Reach.{Reach, Looked};
-ghost use Rattle.machine.specs.Promises.{WordNow, WordStored, FalseAt, Enterable, Entered};
-ghost use Rattle.machine.specs.Steps.{afterRead};
+ghost use Rattle.machine.specs.Promises.{WordNow, WordStored, AfterRead, FalseAt, Enterable, Entered};
 
 // The word that row k is on, as it stands now.
 pub fn word_now(table: &[u8], stride: usize, k: usize, words: &[u32]) -> u32
@@ -38,7 +32,7 @@ pub fn store_word(table: &[u8], stride: usize, k: usize, words: &mut [u32], new:
 
 // A1, once the word is read at this position: a read is done, and so is a compare that meets another value.
 pub fn after_read(row: Row, word: u32, position: u16) -> Status
-    ensures { λ r. ⌜ r ≡ afterRead row word position ⌝ }
+    ensures { λ r. ⌜ AfterRead row word position r ⌝ }
 {
     let kind = runfile::kind_of(row);
     match kind {

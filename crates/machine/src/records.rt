@@ -4,14 +4,12 @@ use super::Opened;
 use super::Process;
 use super::Stage;
 use super::Status;
-ghost use mathlib.Core.Path.{_≡_};
-ghost use Prim.Native.Nat.{_+_, _≤_, _<_};
-ghost use Rattle.machine.specs.Stages.{stageNumber};
-ghost use Rattle.machine.specs.Records as records;
+ghost use Prim.Native.Nat.{_+_, _<_};
+ghost use Rattle.machine.specs.Promises.{Fresh, StageNumbered, OpenRow, AtWork, Started, AtMostSixteen, CrashedFirst};
 
 // "At first all are idle with nothing stored and both bits 0."
 pub fn fresh() -> Process
-    ensures { λ r. ⌜ r ≡ records.fresh ⌝ }
+    ensures { λ r. ⌜ Fresh r ⌝ }
 {
     Process {
         status: Status::Idle,
@@ -25,7 +23,7 @@ pub fn fresh() -> Process
 
 // The place of a stage in the list A1 to A6, V1 to V6.
 pub fn stage_number(stage: Stage) -> u8
-    ensures { λ r. ⌜ r ≡ stageNumber stage ⌝ }
+    ensures { λ r. ⌜ StageNumbered stage r ⌝ }
 {
     match stage {
         Stage::A1 => 0,
@@ -45,7 +43,7 @@ pub fn stage_number(stage: Stage) -> u8
 
 // The number of the open row; 0 where none is open.
 pub fn open_row(opened: Opened) -> u16
-    ensures { λ r. ⌜ r ≡ records.rowOpen opened ⌝ }
+    ensures { λ r. ⌜ OpenRow opened r ⌝ }
 {
     match opened {
         Opened::Closed => 0,
@@ -55,7 +53,7 @@ pub fn open_row(opened: Opened) -> u16
 
 // In the midst of work.
 pub fn busy(stage: Stage, word: u32, read_at: u16, tried_at: u16, answer: Maybe) -> Status
-    ensures { λ r. ⌜ r ≡ Status.Busy stage word «read_at» «tried_at» answer ⌝ }
+    ensures { λ r. ⌜ AtWork stage word «read_at» «tried_at» answer r ⌝ }
 {
     Status::Busy {
         stage,
@@ -69,7 +67,7 @@ pub fn busy(stage: Stage, word: u32, read_at: u16, tried_at: u16, answer: Maybe)
 // N3: opens the next of the rows that begin at row `first`; it is begun now.
 pub fn start(process: Process, first: u16) -> Process
     requires { ⌜ first + process .begun < 65535 ⌝ }
-    ensures { λ r. ⌜ r ≡ records.started (first + process .begun) process ⌝ }
+    ensures { λ r. ⌜ Started process first r ⌝ }
 {
     Process {
         status: busy(Stage::A1, 0, 0, 0, Maybe::None),
@@ -79,14 +77,24 @@ pub fn start(process: Process, first: u16) -> Process
     }
 }
 
-// Brings the first `count` processes down, and leaves the others as they were.
-pub fn crash_first(processes: [Process; 16], count: usize) -> [Process; 16]
-    requires { ⌜ count ≤ 16 ⌝ }
-    ensures { λ r. ⌜ r ≡ records.downTo count processes ⌝ }
+// No more than there are records.
+fn at_most_sixteen(count: usize) -> usize
+    ensures { λ r. ⌜ AtMostSixteen count r ⌝ }
 {
+    if count < 16 {
+        return count;
+    }
+    16
+}
+
+// Brings the first `count` processes down, all if there are not so many, and leaves the others as they were.
+pub fn crash_first(processes: [Process; 16], count: usize) -> [Process; 16]
+    ensures { λ r. ⌜ CrashedFirst processes count r ⌝ }
+{
+    let last = at_most_sixteen(count);
     let mut down = processes;
     let mut i = 0;
-    while i < count {
+    while i < last {
         let process = down[i];
         down[i] = Process {
             status: Status::Down,

@@ -3,7 +3,8 @@ use super::Answer;
 use super::Maybe;
 use rows::Entry;
 ghost use mathlib.Core.Path.{_≡_};
-ghost use Rattle.machine.specs.Steps.{spoken, entry};
+ghost use Rattle.machine.specs.Promises.{EntryMade};
+ghost use Rattle.machine.specs.Steps.{spoken};
 
 // The verdict that the paper gives what is said.
 fn verdict_of(said: Maybe) -> u32
@@ -35,7 +36,7 @@ fn value_said(said: Maybe) -> u32
 
 // A row of the log or of the answers.
 pub fn entry_of(position: u32, process: u8, row: u16, said: Maybe) -> Entry
-    ensures { λ r. ⌜ r ≡ entry position process row said ⌝ }
+    ensures { λ r. ⌜ EntryMade position process row said r ⌝ }
 {
     Entry {
         position,

@@ -756,9 +756,6 @@ loop-less-21 c = search needs
 loop-again-21 : tie.Need-loop-again-21 Inv-loop μ-loop
 loop-again-21 c = let e = all-of (c .before) in let l = c .if3 .taken in absurd (omega arith)
 
-crash-first-requires : tie.Need-crash-first-requires Inv-loop μ-loop
-crash-first-requires c κs = begins (head (c .before .before)) .pre .present
-
 loop-less-22 : tie.Need-loop-less-22 Inv-loop μ-loop
 loop-less-22 c = search needs
 
@@ -939,7 +936,7 @@ run-bytes-spec =
     loop-again-20
     loop-less-21
     loop-again-21
-    crash-first-requires
+    (λ c κs. search needs)
     loop-less-22
     loop-again-22
     add-t298
