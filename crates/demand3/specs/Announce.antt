@@ -1,6 +1,6 @@
--- The announcement of a row is three stores, and a process may be cut off between any two. Whatever is cut off: demand 3 holds, for it
--- holds of every schedule (`demand3`); a process that is cut off wakes idle with no row open, and has the same row to announce
--- (`announced-again`, in the machine's `Cut`); and a row is begun at one byte at most, and at exactly one if it has begun. For how many rows a
+-- The announcement of a row is three stores (R101 to R103), and a process may be cut off between any two. Whatever is cut off: demand 3 holds, for it
+-- holds of every schedule (`demand3`); a process that is cut off wakes idle with no row open, and has the same row to announce (R105;
+-- `announced-again`, in the machine's `Cut`); and a row is begun at one byte at most, and at exactly one if it has begun (R242). For how many rows a
 -- process has begun never falls.
 use Prim.Native.Nat.{ℕ, suc, _+_, _≤_, _<_}
 use mathlib.Core.Path.{_≡_, refl, sym, ap, subst}
@@ -81,7 +81,7 @@ module _ (rows : List Row) (k : ℕ) where
       go false true h m e = omega arith
       go false false h m e = omega arith
 
--- "the row is begun exactly once": at one byte if it has begun, and else at none
+-- a row begins at one byte if it has begun, and else at none (R242)
 module _ (rows : List Row) (words : List ℕ) (P : ℕ) (plan : Plan P (length words) rows) (schedule : List ℕ) (k : ℕ) (inside : k < length rows) where
   not-at-first : hasBegun rows k (begin P words) ≡ false
   unfolding begin procAt

@@ -1,5 +1,5 @@
--- Detectability, said plainly, of whatever machine meets demand 3; and the mission's capture, for every schedule: of workers that all move a word from
--- the same old to the same new, at most one is told true, and it is one that made the move itself. For by the replay the first true leaves
+-- Detectability, said plainly, of whatever machine meets demand 3 (R248); and the capture, for every schedule (R255): of workers that all move a word
+-- from the same old to the same new, at most one is told true, and it is one that made the move itself. For by the replay the first true leaves
 -- new, and new is not old.
 use Prim.Native.Nat.{ℕ, _+_, _≤_, _<_}
 use mathlib.Core.Path.{_≡_, refl, sym, _∙_, ap, subst}
@@ -118,7 +118,7 @@ module _ (rows : List Row) (w old new : ℕ) (differ : new ≡ old → ⊥) (mov
           let here : isSwapped (said e) ≡ false = ap isSwapped (r .0) ∙ q in
           rw here (omega arith)
 
-  -- the capture: two operations are not both told true
+  -- the capture (R255): two operations are not both told true
   pub one-mover : (f : Firmware) (schedule : List ℕ) (log answers : List Entry) (values : List ℕ) → Demand3 f rows schedule log answers values → w < length (f .words (f .start))
       → (k j : ℕ) → (k ≡ j → ⊥) → (t : Told f rows schedule k log answers) (u : Told f rows schedule j log answers) → t .answer ≡ Is True → u .answer ≡ Is True → ⊥
   one-mover f schedule log answers values d l k j n t u et eu =

@@ -1,4 +1,4 @@
--- Demand 3 of the paper's machine, for all rows that pass the refusals, all start words and all schedules: what is known of each row, put
+-- Demand 3 of the bench machine, for all rows that pass the refusals, all start words and all schedules: what is known of each row, put
 -- together.
 use Prim.Native.Nat.{ℕ, _+_, _≤_, _<_}
 use mathlib.Core.Path.{_≡_, sym, _∙_, ap, subst}

@@ -1,4 +1,4 @@
--- Demand 3 of every run file that is not refused, and of what `run` leaves in the three buffers: the refusals give what the theorem asks of
+-- Demand 3 (R242 to R254) of every run file that is not refused, and of what `run` leaves in the three buffers: the refusals give what the theorem asks of
 -- the rows, and the rows in the buffers are those of the log and of the answers.
 -- Assumes of the file that its numbers are bytes, which is what `run` is lent (`&[u8]`).
 use Prim.Native.Nat.{ℕ, suc, _^_, _≤_, _<_}

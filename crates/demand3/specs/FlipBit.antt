@@ -1,4 +1,4 @@
--- The machine of the paper, which turns flip bits, as demand 3 sees it; and demand 3 of it, with what is said besides of its stages.
+-- The bench machine, which turns flip bits (R114), as demand 3 sees it; and demand 3 of it, with what is said besides of its stages.
 use Prim.Native.Nat.{ℕ, suc, _<_}
 use mathlib.Core.Path.{_≡_, refl}
 use mathlib.Core.List.{List, [], _∷_}
@@ -16,7 +16,7 @@ use Rattle.machine.specs.Machine.{State, procAt, step, after, begin}
 use Rattle.replay.specs.Lists.{Found}
 use Rattle.demand3.specs.Statement.{Firmware, ownerOf, through, StillOpen, stateAfter, Demand3}
 
--- a machine that has the states of the paper's, and whose bytes do this, for P processes and these start words
+-- a machine that has the states of the bench machine, and whose bytes do this, for P processes and these start words
 abbrev pub machineOf : ((t byte : ℕ) → State → State) → ℕ → List ℕ → Firmware
 machineOf does P words =
     record {
@@ -41,8 +41,8 @@ unfolding through after
 through-after rows P words t [] s = refl
 through-after rows P words t (byte ∷ bytes) s = through-after rows P words (suc t) bytes (step rows t byte s)
 
--- the swap that a lost one, which read word w at position a, looks for is in the log: the front-most one has this position, and whatever is
--- handed in for the case that there is none is not used
+-- the swap that a lost one, which read word w at position a, looks for (R168) is in the log: the front-most one has this position, and whatever is
+-- handed in for the case that there is none (R169) is not used
 pub record Beaten (rows : List Row) (w a : ℕ) (log : List Entry) : Type 0 where
   pub by : Entry
   pub front-most : Found (isSwap rows w a) log by
@@ -51,7 +51,7 @@ pub record Beaten (rows : List Row) (w a : ℕ) (log : List Entry) : Type 0 wher
 -- Demand 3 of this machine
 pub record OfFlipBit (rows : List Row) (P : ℕ) (words schedule : List ℕ) (log answers : List Entry) (values : List ℕ) : Type 0 where
   pub demand : Demand3 (flipBit rows P words) rows schedule log answers values
-  -- 5. a lost swap, false although the value read was old, finds the swap that beat it in the log as it stands when it stores its answer
+  -- 5. a lost swap, which had read old, finds the swap that beat it in the log as it stands when it stores its answer (R254)
   pub beaten : (n k seen readAt triedAt : ℕ) → k < length rows → StillOpen (flipBit rows P words) rows k (stateAfter (flipBit rows P words) schedule n)
       → procAt (ownerOf rows k) (stateAfter (flipBit rows P words) schedule n) .status ≡ Busy A5 seen readAt triedAt (Is False) → value seen ≡ rowNumbered rows k .old
       → Beaten rows (rowNumbered rows k .word) readAt (stateAfter (flipBit rows P words) schedule n .log)

@@ -1,4 +1,4 @@
--- What a process at A5, A6 or V5 has: at A5 a lost swap has the swap that beat it in the log; and at none of them is the answer missing.
+-- What a process at A5, A6 or V5 has: at A5 a lost swap has the swap that beat it in the log (R254); and at none of them is the answer missing (R127).
 -- Both are read off the invariant's lines for these stages.
 use Prim.Native.Nat.{ℕ, _+_, _<_}
 use mathlib.Core.Path.{_≡_, sym, _∙_, subst}
@@ -74,7 +74,7 @@ module _ (rows : List Row) (words : List ℕ) (P : ℕ) (plan : Plan P (length w
           lost-found rows (map value words) Always p k (0 + length bytes) a x (s .words) (s .log) (r .checkpoint) (r .kept)
           (subst (λ j. Pending rows (map value words) Always p j (0 + length bytes) a x (s .words) (s .log) (r .checkpoint) (r .kept) (Is False)) same (h .1)) old
 
-  -- "A5: store the answer. A6: return it", "V5": there is one
+  -- where an answer is stored or returned, at A5, A6 and V5, there is one (R127)
   pub stores-some : (x a ta : ℕ) → r .status ≡ Busy A5 x a ta None → ⊥
   stores-some x a ta e = go (at-stage A5 x a ta None e)
     where

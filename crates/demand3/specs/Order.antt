@@ -1,4 +1,4 @@
--- Real-time order: row i of process p had ended when row j of process q had not begun. From then on every entry of the later row has a
+-- Real-time order (R253): row i of process p had ended when row j of process q had not begun. From then on every entry of the later row has a
 -- position at or after that time (this is the invariant, with a `Late` of its own), and the entry of the earlier row is from before. The log
 -- is ordered by position.
 use Prim.Native.Nat.{ℕ, suc, _+_, _≤_, _<_}

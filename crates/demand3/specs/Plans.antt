@@ -16,14 +16,14 @@ use Rattle.replay.specs.Lists.{All, all-map}
 use Rattle.replay.specs.Plain.{answerOf}
 use Rattle.replay.specs.Replay.{Good}
 
--- refusals 9, 10 and 11 are given for none of the rows, over P processes and W words
+-- refusals 9, 10 and 11 are given for none of the rows, over P processes and W words (R49 to R51)
 pub record Plan (P W : ℕ) (rows : List Row) : Type 0 where
   pub some-word : 0 < W
   pub good : (k : ℕ) → k < length rows → Good W (rowNumbered rows k)
   pub present : (k : ℕ) → k < length rows → rowNumbered rows k .process < P
   pub order : (k : ℕ) → suc k < length rows → rowNumbered rows k .process ≤ rowNumbered rows (suc k) .process
 
--- the order, row by row: no row's process is below that of the row before
+-- the order, row by row: no row has a smaller process than the row in front of it (R50)
 abbrev pub NotBelow : Row → List Row → Type 0
 NotBelow r [] = Unit {0}
 NotBelow r (q ∷ rows) = r .process ≤ q .process

@@ -1,7 +1,7 @@
--- Demand 3, stated, for any machine, rows and a schedule. Here is what it says, and every definition that it rests on beside those of plain
+-- Demand 3 (R242 to R254), stated, for any machine, rows and a schedule. Here is what it says, and every definition that it rests on beside those of plain
 -- words (`Plain.antt`). A machine is given by its states, its step and what is to be seen of a state (`Firmware`); that an operation has begun,
 -- has ended, has swapped or has stored its answer is said of that machine's own states, and the log is not asked. `FlipBit.antt` gives the
--- machine of the paper, `File.antt` proves the demand of every run file that is not refused, and of what `run` leaves in the three buffers;
+-- bench machine, `File.antt` proves the demand of every run file that is not refused, and of what `run` leaves in the three buffers;
 -- `Wrong.antt` gives three machines that break it.
 --
 -- An operation is a row of the file, known by its number k.
@@ -87,13 +87,13 @@ module _ (rows : List Row) where
 unfoldable pub swapsTold : Maybe → ℕ
 swapsTold told = counts (isSwapped (spoken told))
 
--- "Positions count from 0": the bytes of a schedule, the first of them at position t
+-- the bytes of a schedule, the first of them at position t (R70)
 unfoldable pub through : (m : Firmware) (t : ℕ) → List ℕ → m .State → m .State
 through m t [] s = s
 through m t (byte ∷ bytes) s = through m (suc t) bytes (m .step t byte s)
 
 module _ (m : Firmware) (rows : List Row) where
-  -- "A process's rows are carried out in file order": row k has been begun if its process has begun more rows than it has in front of k
+  -- a process carries out its rows in file order (R12, R87): so row k has been begun if its process has begun more rows than it has in front of k
   abbrev pub Begun : ℕ → m .State → Type 0
   Begun k s = k < first rows (ownerOf rows k) + m .begun (ownerOf rows k) s
 
@@ -104,11 +104,11 @@ module _ (m : Firmware) (rows : List Row) where
     pub begun : Begun k s
     pub shut : StillOpen k s → ⊥
 
-  -- "has stored its answer": the row is open, and the answer is kept with it
+  -- its answer is stored: the row is open, and the answer is kept with it (R250)
   abbrev pub Stored : ℕ → Maybe → m .State → Type 0
   Stored k answer s = m .stored (ownerOf rows k) s ≡ answer
 
-  -- the byte at position t swaps for row k: the process that it names has row k open, and the row's word is changed by it
+  -- the byte at position t swaps for row k (R243): the process that it names has row k open, and the row's word is changed by it
   unfoldable pub swapsAt : (k t byte : ℕ) → m .State → Bool
   swapsAt k t byte s = isRow k (m .opened (named byte) s) && not (eqb (wordOf rows k (m .words s)) (wordOf rows k (m .words (m .step t byte s))))
 
@@ -132,16 +132,17 @@ module _ (m : Firmware) (rows : List Row) (schedule : List ℕ) where
   abbrev pub swaps : ℕ → ℕ
   swaps k = swapCount m rows k 0 schedule (m .start)
 
-  -- "An ended operation stands in the log once with its answer, or was told "fail" and does not stand there." It has one answer row. Told
-  -- of a successful swap (true), it swapped exactly once; told anything else, it never swapped; and whatever bytes were to follow, that would be so
+  -- An operation that has ended: it has one answer row (R246), and stands in the log once with the same answer unless it was told fail (R247). Told
+  -- of a successful swap (true), it swapped exactly once; told anything else, it never swapped; and whatever bytes were to follow, that would be so (R248)
   pub record Told (k : ℕ) (log answers : List Entry) : Type 0 where
     pub answer : Maybe
     pub answered : Once (ownerOf rows k) k answer answers
     pub logged : Logged (ownerOf rows k) k answer log
     pub swapped : (more : List ℕ) → swapsWith k more ≡ swapsTold answer
 
-  -- "one not ended stands there once exactly if it has swapped or stored its answer": with what a swap of its kind says over some value, which is
-  -- true, if it swapped (and `replayed` has the value that the word has there), with the stored answer if stored. It has no answer row
+  -- One that has begun and not ended: it has no answer row (R249), and stands in the log once if it has swapped or has stored its answer, and otherwise
+  -- not (R250): with what a swap of its kind says over some value, which is true, if it swapped (and `replayed` has the value that the word has there),
+  -- with the stored answer if stored
   pub record Untold (k : ℕ) (log answers : List Entry) : Type 0 where
     pub unanswered : of k answers ≡ []
     pub at-most-once : swaps k ≤ 1
@@ -149,7 +150,7 @@ module _ (m : Firmware) (rows : List Row) (schedule : List ℕ) where
     pub has-stored : (a : Answer) → Stored m rows k (Is a) (endState m schedule) → Once (ownerOf rows k) k (Is a) log
     pub neither : swaps k ≡ 0 → Stored m rows k None (endState m schedule) → of k log ≡ []
 
-  -- one not begun stands nowhere
+  -- one not begun stands nowhere (R251)
   pub record Unbegun (k : ℕ) (log answers : List Entry) : Type 0 where
     pub unlogged : of k log ≡ []
     pub unanswered : of k answers ≡ []
@@ -172,15 +173,15 @@ module _ (m : Firmware) (rows : List Row) (schedule : List ℕ) where
 
   -- Demand 3 of a log, of answers, and of the values that the words have at the end
   pub record Demand3 (log answers : List Entry) (values : List ℕ) : Type 0 where
-    -- 1. "carrying out the log in order on plain words gives every answer in the log and every final value"
+    -- 1. carried out on plain words, the log gives the answers that stand in it and the values at the end (R245)
     pub replayed : Replayed rows (map (m .value) (m .words (m .start))) log values
-    -- 2, 3 and 6. every row of the file has ended, is open, or has not begun; and no other row number stands in log or answers
+    -- 2, 3 and 6. every row of the file has ended, is open, or has not begun; and no other row number stands in log or answers (R246 to R252)
     pub ended : (k : ℕ) → k < length rows → Ended m rows k (endState m schedule) → Told k log answers
     pub still-open : (k : ℕ) → k < length rows → StillOpen m rows k (endState m schedule) → Untold k log answers
     pub unbegun : (k : ℕ) → k < length rows → (Begun m rows k (endState m schedule) → ⊥) → Unbegun k log answers
     pub log-rows : All (λ e. e .row < length rows) log
     pub answer-rows : All (λ e. e .row < length rows) answers
-    -- 4. "real-time order is kept": k had ended when j had not begun, after n bytes; if both stand in the log, k comes first
+    -- 4. order in time (R253): k had ended when j had not begun, after n bytes; if both stand in the log, k comes first
     pub order : (n k j : ℕ) → k < length rows → j < length rows → Ended m rows k (stateAfter m schedule n) → (Begun m rows j (stateAfter m schedule n) → ⊥)
         → (x y : Entry) → of k log ≡ x ∷ [] → of j log ≡ y ∷ [] → Before x y log
     -- positions: the log is in order of position, swaps strictly so; each log row and each answer row has its time, and the log row's comes first

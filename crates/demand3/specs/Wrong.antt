@@ -1,4 +1,4 @@
--- Three wrong machines, held against demand 3, which is said of each one's own states. Each differs from the paper's machine in one rule, and each
+-- Three wrong machines, held against demand 3, which is said of each one's own states. Each differs from the bench machine in one rule, and each
 -- has a short run that breaks the statement, by computation: so it is not a statement that any machine would meet.
 use Prim.Native.Nat.{ℕ, suc, _+_, _<_}
 use mathlib.Core.Path.{_≡_, refl, sym, _∙_, ap, subst}
@@ -60,7 +60,7 @@ module _ (rule : Row → (now next : ℕ) → Process → Turn → Turn) (rows :
 pub swap : (process old new : ℕ) → Row
 swap p old new = record { process = p; kind = 1; word = 0; old = old; new = new }
 
--- 1. The firmware's bug: "the value is new" in place of V3's "the own flip bit equal to the kept bit"
+-- 1. Recovery that goes by whether the value is new (R280), in place of the own flip bit and the kept bit (R123)
 pub recovering : Row → ℕ → Process → Status → Turn → Turn
 recovering row now r Down u = u
 recovering row now r Idle u = u
@@ -122,7 +122,7 @@ capture-breaks d =
     let t = d .ended 0 (omega arith) row-ended in
     told-alone (ownerOf captureRows 0) 0 (record { position = 19; process = 0; row = 0; verdict = 1; value = 0 }) (captured .log) (captured .answers) told-true refl not-logged (t .answer) (t .answered) (t .logged)
 
--- 2. A lost swap logged at its A4's position in place of that of the swap that beat it
+-- 2. A lost swap that takes the position of its own A4 (R283), in place of that of the swap that beat it (R167)
 pub atItsA4 : Row → (now next : ℕ) → Process → Turn → Turn
 atItsA4 row now k r Still = Still
 atItsA4 row now k r (Quiet next) = Quiet next
@@ -146,7 +146,7 @@ pub back-breaks : Meets placing backRows backSchedule → ⊥
 unfolding backRows backSchedule swap atItsA4 turnBy actBy stepBy through rowNumbered first count valueIn bitIn swappedIn bitOf turnOf flipsIn isSwapped onePast place insert spoken tried storing decide stepTurn applied apply procAt turn act step after begin names isSwap firstSwap answerOf leaves
 back-breaks d = let z : _≡_ {A = ℕ} 0 1 = ap (λ d. d .verdict) (d .replayed .1 .1 .0) in omega arith
 
--- 3. The row opened before the checkpoint is cleared
+-- 3. The row opened before the checkpoint is cleared: R103 done before R102
 pub announcing : ℕ → Process → Status → Turn → Turn
 announcing k r Down u = u
 announcing k r Idle u = u

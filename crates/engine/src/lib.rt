@@ -1,5 +1,6 @@
-// The engine: a part of a schedule, run over lent buffers. R70 to R173 are carried out here, and nowhere else. The whole
-// run is all of the schedule from position 0 and fresh records on (R181); a key of the panel is a part of one byte (R202).
+// The engine: a part of a schedule, run over lent buffers. Schedules are run here and nowhere else: each byte as R70 to
+// R173 say, with the small functions of the crate `machine` and, for the log, of `rows`. The whole run is all of the
+// schedule from position 0 and fresh records on (R181); a key of the panel is a part of one byte (R202).
 use machine::Answer;
 use machine::Maybe;
 use machine::Opened;

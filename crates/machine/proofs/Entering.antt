@@ -1,4 +1,4 @@
--- A5 on the log: nothing is entered, or one row is.
+-- A5 on the log (R164 to R167): nothing is entered, or one row is.
 use mathlib.Core.Path.{_≡_, refl, sym, ap, ap₂, _∙_}
 use mathlib.Core.Bool.{Bool, true, false, cond}
 use mathlib.Core.List.{List}

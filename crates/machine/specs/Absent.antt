@@ -1,6 +1,6 @@
 -- The flip bits over a whole schedule, whatever its bytes are: bit q of a word is turned as often as process q changes the word, and by nothing else.
--- So "bits of absent processes never change", and the bit of a process that has changed a word by no byte is as it was at the start. Shown from what
--- one byte may write: nothing, or a swap by the process that it names, which has a row open.
+-- So the bits of processes that the file does not have stay as they are (R17), and the bit of a process that has changed a word by no byte is as it was
+-- at the start. Shown from what one byte may write: nothing, or a swap by the process that it names, which has a row open.
 use Prim.Native.Nat.{ℕ, zero, suc, _^_, _≤_, _<_}
 use mathlib.Core.Path.{_≡_, refl, sym, _∙_, ap, subst}
 use mathlib.Core.Bool.{Bool, true, false, cond, not, _&&_, true≢false}
@@ -127,7 +127,7 @@ unfoldable pub turnedBy : ℕ → Bool → Bool
 turnedBy zero b = b
 turnedBy (suc n) b = turnedBy n (not b)
 
--- "old and new are 16-bit numbers": what a swap puts in has no more bits than a value
+-- old and new have two bytes each (R10): what a swap puts in has no more bits than a value
 abbrev pub Fitting : List Row → Type 0
 Fitting rows = (k v : ℕ) → newOf (rowNumbered rows k) v < 2 ^ width
 

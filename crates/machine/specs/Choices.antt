@@ -33,7 +33,7 @@ same-or-not false false = inl refl
 
 -- at whatever row, with whatever in hand
 module _ (row : Row) (p t now : ℕ) (r : Process) (seen readAt triedAt : ℕ) (answer : Maybe) where
-  -- "V1: an answer stored goes to V5, else V2."
+  -- V1 goes by whether an answer is stored (R121)
   pub v1-stored : (a : Answer) → r .stored ≡ Is a → LeadsTo r V5 (decide row p t now r V1 seen readAt triedAt answer)
   unfolding decide
   v1-stored a e = record { seen = seen; readAt = readAt; triedAt = triedAt; answer = answer; is = ap (λ m. Quiet (with-status (Busy (recovered m) seen readAt triedAt answer) r)) e }
@@ -42,12 +42,12 @@ module _ (row : Row) (p t now : ℕ) (r : Process) (seen readAt triedAt : ℕ) (
   unfolding decide
   v1-none e = record { seen = seen; readAt = readAt; triedAt = triedAt; answer = answer; is = ap (λ m. Quiet (with-status (Busy (recovered m) seen readAt triedAt answer) r)) e }
 
-  -- "V2: checkpoint 0 goes to V6, else V3."
+  -- V2 goes by the checkpoint (R122)
   pub v2-by : LeadsTo r (cond (r .checkpoint) V3 V6) (decide row p t now r V2 seen readAt triedAt answer)
   unfolding decide
   v2-by = record { seen = seen; readAt = readAt; triedAt = triedAt; answer = answer; is = refl }
 
-  -- "V3: the own flip bit equal to the kept bit goes to V4, else V6."
+  -- V3 goes by whether the own flip bit is the kept bit (R123)
   pub v3-same : bit p now ≡ r .kept → LeadsTo r V4 (decide row p t now r V3 seen readAt triedAt answer)
   unfolding decide
   v3-same e = record { seen = now; readAt = readAt; triedAt = triedAt; answer = answer; is = ap (λ c. Quiet (with-status (Busy (cond c V4 V6) now readAt triedAt answer) r)) (ap (λ b. sameBit b (r .kept)) e ∙ same (r .kept)) }

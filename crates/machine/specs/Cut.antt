@@ -1,4 +1,4 @@
--- The announcement that is cut off is made again, and for the same row. Whatever the bytes are, a process that has no row open has none until it
+-- The announcement that is cut off is made again, and for the same row (R105). Whatever the bytes are, a process that has no row open has none until it
 -- has begun one more, and the byte at which it has opens the row that follows those that it had begun. So the row that opens after a cut is the
 -- row whose announcement was cut. Shown by cases of what one byte may make of a record.
 use Prim.Native.Nat.{ℕ, zero, suc, _+_, _≤_, _<_}
@@ -275,8 +275,8 @@ pub record Again (rows : List Row) (p n : ℕ) (cut : Process) (s : State) : Typ
   pub opens : (t : ℕ) (bytes : List ℕ) (byte : ℕ) → procAt p (after rows t bytes s) .begun ≡ n → (procAt p (after rows t (bytes ++ (byte ∷ [])) s) .begun ≡ n → ⊥)
       → (procAt p (after rows t (bytes ++ (byte ∷ [])) s) .begun ≡ suc n) × (procAt p (after rows t (bytes ++ (byte ∷ [])) s) .opened ≡ Open (first rows p + n))
 
--- "A process cut off before the third has no row open, wakes idle and begins the same row again". After any schedule, p is idle or in the midst of the
--- announcement. Bytes a follow, whatever they are, with which it begins no row; a crash of p or of all; bytes b, none of which wakes p; its wake
+-- Cut off before its third store, a process wakes idle with no row open and announces the same row again (R105). After any schedule, p is idle or in the
+-- midst of the announcement. Bytes a follow, whatever they are, with which it begins no row; a crash of p or of all; bytes b, none of which wakes p; its wake
 module _ (rows : List Row) (words : List ℕ) (P : ℕ) (schedule : List ℕ) (p : ℕ) (here : p < P) where
   abbrev s : State
   s = after rows 0 schedule (begin P words)

@@ -66,7 +66,7 @@ goes row p t now r V4 seen readAt triedAt answer = on refl refl (λ x. x)
 goes row p t now r V5 seen readAt triedAt answer = ends refl refl refl
 goes row p t now r V6 seen readAt triedAt answer = ends refl refl refl
 
--- What a step of process p makes of its record: nothing; one of the three stores that announce a row; work gone on with.
+-- What a step of process p makes of its record: nothing; one of the three stores that announce a row (R101 to R103); work gone on with.
 pub data Turned (rows : List Row) (p : ℕ) (r : Process) : Process → Type 0 where
   still : Turned rows p r r
   first-store : r .begun < count rows p → Turned rows p r (with-stored N2 None r)
@@ -174,7 +174,7 @@ open-any N2 opened k e = tt
 open-any N3 opened k e = tt
 open-any (Busy stage seen readAt triedAt answer) opened k e = (k, e)
 
--- at first every process, there or not, has a fresh record
+-- at first every process, there or not, has a fresh record (R86)
 pub fresh-at : (P p : ℕ) → getD (replicate P fresh) p fresh ≡ fresh
 fresh-at zero p = refl
 fresh-at (suc P) zero = refl
@@ -218,7 +218,7 @@ module _ (rows : List Row) where
   pub sane-idle : (q : ℕ) → Sane rows q fresh
   sane-idle q = record { in-file = λ k e. closed-open e; works = tt; left = λ x. absurd x }
 
-  -- "no index goes wrong": whatever the bytes, if it is so before them, an open row is a row of the file, in the midst of work a row is
+  -- no index is out of range (R256): whatever the bytes, if it is so before them, an open row is a row of the file, in the midst of work a row is
   -- open, and a row that is announced is there
   pub sane-after : (t : ℕ) (bytes : List ℕ) (s : State) → ((q : ℕ) → Sane rows q (procAt q s)) → (q : ℕ) → Sane rows q (procAt q (after rows t bytes s))
   sane-after = each-after rows (Sane rows) sane-turned (λ p r h. record { in-file = h .in-file; works = tt; left = λ x. absurd x }) (λ p r h. sane-waked p r (r .status) h)

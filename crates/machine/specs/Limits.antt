@@ -1,6 +1,6 @@
--- "Left uncrashed, a process ends its operation within 9 of its own steps from the start, or within 5 after a wake": for any rows, any
--- start words and any schedule, whatever the others do in between. Each own step leads to a stage with fewer steps to go, or closes the
--- row; no other byte touches the record of a process that is awake, unless it crashes it.
+-- Left alone by crashes, a process ends its operation within 9 own steps from the start (R150), and within 5 after a wake (R151): for any
+-- rows, any start words and any schedule, whatever the others do in between (R152). Each own step leads to a stage with fewer steps to go, or
+-- closes the row; no other byte touches the record of a process that is awake, unless it crashes it.
 use Prim.Native.Nat.{ℕ, zero, suc, _+_, _≤_, _<_}
 use mathlib.Core.Path.{_≡_, refl, sym, ap, _∙_, subst}
 use mathlib.Core.Bool.{Bool, true, false, cond}
@@ -34,7 +34,7 @@ use Rattle.machine.specs.Laws.{after-join, after-snoc}
 use Rattle.machine.specs.KindLaws.{either, read-leads, tried-leads}
 use Rattle.machine.specs.OneByte.{others, wake-awake, no-action}
 
--- "0 step, 1 crash, 2 wake, 15 crash of all": does an action that names process q make a step of p; does it crash p
+-- does an action that names process q make a step of p; does it crash p (R72)
 abbrev pub stepOf : ℕ → Action → ℕ → Bool
 stepOf p steps q = eqb q p
 stepOf p crashes q = false
@@ -54,22 +54,22 @@ unfoldable pub howMany : (ℕ → Bool) → List ℕ → ℕ
 howMany sort [] = 0
 howMany sort (byte ∷ bytes) = cond (sort byte) (suc (howMany sort bytes)) (howMany sort bytes)
 
--- "of its own steps": how many of the bytes are steps of p
+-- how many of the bytes are steps of p: its own steps (R150, R151)
 abbrev pub ownSteps : ℕ → List ℕ → ℕ
 ownSteps p bytes = howMany (λ byte. stepOf p (action byte) (named byte)) bytes
 
--- "Left uncrashed": none of the bytes is a crash of p or of all
+-- none of the bytes is a crash of p or of all (R152)
 abbrev pub Uncrashed : ℕ → List ℕ → Type 0
 Uncrashed p bytes = howMany (λ byte. crashOf p (action byte) (named byte)) bytes ≡ 0
 
--- "the row is closed, the process idle"; and "how many rows it has begun" is n
+-- the row is closed, the process is idle (R116, R125, R126), and it has begun n rows (R84)
 pub record Ended (n : ℕ) (r : Process) : Type 0 where
   pub idle : r .status ≡ Idle
   pub no-row : r .opened ≡ Closed
   pub begun : r .begun ≡ n
 
--- "ends its operation within .. of its own steps": the bytes have a first part, with at most `limit` steps of p, after which p has ended
--- its operation; `at` gives the state after a first part
+-- the operation ends in time (R150, R151): the bytes have a first part, with at most `limit` steps of p, after which p has ended it; `at` gives
+-- the state after a first part
 pub record EndsWithin (limit begun p : ℕ) (bytes : List ℕ) (at : List ℕ → State) : Type 0 where
   pub part : List ℕ
   pub rest : List ℕ
@@ -81,7 +81,7 @@ pub record EndsWithin (limit begun p : ℕ) (bytes : List ℕ) (at : List ℕ �
 retold : (limit begun p : ℕ) (bytes : List ℕ) (at at′ : List ℕ → State) → ((part : List ℕ) → at′ part ≡ at part) → EndsWithin limit begun p bytes at → EndsWithin limit begun p bytes at′
 retold limit begun p bytes at at′ same e = record { part = e .part; rest = e .rest; whole = e .whole; few = e .few; ended = rw (same (e .part)) (e .ended) }
 
--- how many own steps may follow that of a stage until the row is closed: "A1 .. goes to A5; otherwise A2", "V1 .. goes to V5, else V2", ..
+-- how many own steps may follow that of a stage until the row is closed, by the longer way where a stage leads on to one of two (R111 to R126)
 unfoldable further : Stage → ℕ
 further A1 = 5
 further A2 = 4
@@ -135,7 +135,7 @@ module _ (row : Row) (p t now : ℕ) (r : Process) (all n begun k : ℕ) (o : r 
   led : {stage : Stage} {u : Turn} → LeadsTo r stage u → further stage < n → Nearer (processOf r u)
   led l m = subst (λ u. Nearer (processOf r u)) (sym (l .is)) (on _ m refl refl)
 
-  -- "A5: store the answer": whatever goes into the log
+  -- A5 stores the answer (R115), whatever goes into the log
   stored : (next : Process) (seen readAt triedAt : ℕ) (answer : Maybe) → processOf r (storing row next seen readAt triedAt answer) ≡ next
   unfolding storing
   stored next seen readAt triedAt None = refl
@@ -291,8 +291,8 @@ module _ (rows : List Row) (P : ℕ) (words : List ℕ) where
     unfolding begin
     here = present rows p 0 before (begin P words) (rw (length-replicate P fresh) h)
 
-    -- "Left uncrashed, a process ends its operation within 9 of its own steps from the start": after the bytes `before` it is idle with
-    -- rows left, so that its next own step is the first store of the announcement; in the bytes `during` it is not crashed and has the 9 steps
+    -- R150: after the bytes `before` it is idle with rows left, so that its next own step is the first store of the announcement; in the bytes
+    -- `during` it is not crashed and has the 9 steps
     pub from-start : (during : List ℕ) → recordOf p before .status ≡ Idle → recordOf p before .begun < count rows p → Uncrashed p during → 9 ≤ ownSteps p during
         → EndsWithin 9 (suc (recordOf p before .begun)) p during (λ part. ran (before ++ part))
     from-start during i l u n = retold _ _ p during _ _ (λ part. after-join rows 0 before part (begin P words)) (within rows p 9 (suc (mine .begun)) (0 + length before) during (ran before) here (inr (starts i l refl (omega arith))) u n)
@@ -305,7 +305,7 @@ module _ (rows : List Row) (P : ℕ) (words : List ℕ) where
       unfolding step act applied apply procAt
       woken-is = rw (a, q, getD-set-same (ran before .processes) p _ fresh here, d)
 
-      -- "or within 5 after a wake": after `before` it is down with a row open, and the next byte wakes it
+      -- R151: after `before` it is down with a row open, and the next byte wakes it
       pub from-wake : (k : ℕ) (during : List ℕ) → recordOf p before .opened ≡ Open k → Uncrashed p during → 5 ≤ ownSteps p during
           → EndsWithin 5 (recordOf p before .begun) p during (λ part. ran (before ++ (byte ∷ part)))
       unfolding after further
@@ -313,12 +313,12 @@ module _ (rows : List Row) (P : ℕ) (words : List ℕ) where
           retold _ _ p during _ _ (λ part. after-join rows 0 before (byte ∷ part) (begin P words))
           (within rows p 5 (mine .begun) (suc (0 + length before)) during woken (rw (size rows p (0 + length before) byte (ran before)) here) (rw (woken-is, o) (inr (works k (omega arith) refl refl))) u n)
 
-      -- "Wake: a process that is down goes to V1 if a row is open, else idle": with no row open it is idle at once
+      -- with no row open it is idle at once (R132)
       pub wake-idle : recordOf p before .opened ≡ Closed → Ended (recordOf p before .begun) (recordOf p (before ++ (byte ∷ [])))
       wake-idle o = rw (after-snoc rows 0 before byte (begin P words), woken-is, o) (record { idle = refl; no-row = refl; begun = refl })
 
--- The limits apply, and they are met. In bench case f, 4·00 7·01 5·00, process 0 has 9 steps, with 7 of process 1 in between; in bench case
--- d, 7·00 10 20 5·00, it has 5 steps after its wake. In both its row is still open after one step less
+-- The limits apply, and they are met. In case f (R266), 4·00 7·01 5·00, process 0 has 9 steps, with 7 of process 1 in between; in case d
+-- (R264), 7·00 10 20 5·00, it has 5 steps after its wake. In both its row is still open after one step less
 abbrev compare : (process old new : ℕ) → Row
 compare process old new = record { process = process; kind = 1; word = 0; old = old; new = new }
 

@@ -1,4 +1,4 @@
--- The machine: what a step comes to is carried out on words, records, log and answers; a byte; a schedule.
+-- The machine: what a step comes to is carried out on words, records, log and answers; a byte; a schedule (R70 to R173).
 use Prim.Native.Nat.{ℕ, suc}
 use mathlib.Core.List.{List, [], _∷_, _++_, map}
 use lib.ListN.{getD, set, replicate}
@@ -42,8 +42,8 @@ processOf r (Logs next q a) = next
 processOf r (Loses next after otherwise) = next
 processOf r (Replies next said) = next
 
--- its effect, for process p at position t, on row k, which is on word w. "That is the front-most log row of a successful swap whose
--- position is larger than its A1's and whose row number names a row on the same word."
+-- its effect, for process p at position t, on row k, which is on word w. A lost swap takes the position of the first successful swap from the
+-- front, on the same word, that is later than its A1 (R168)
 abbrev pub effectOf : List Row → List Entry → (p t k w : ℕ) → Turn → Effect
 effectOf rows log p t k w Still = quiet
 effectOf rows log p t k w (Quiet next) = quiet
@@ -94,7 +94,7 @@ applied p u s = apply (u .effect) (set (s .processes) p (u .process)) s
 unfoldable pub procAt : ℕ → State → Process
 procAt p s = getD (s .processes) p fresh
 
--- what an action does at position t, p being the process that the byte names
+-- what an action does at position t, p being the process that the byte names (R71, R72)
 unfoldable pub act : List Row → ℕ → Action → ℕ → State → State
 act rows t steps p s = applied p (turn rows p t (s .words) (s .log) (procAt p s) (procAt p s .status)) s
 act rows t crashes p s = applied p (alone (crashed (procAt p s))) s
@@ -106,11 +106,11 @@ act rows t idles p s = s
 unfoldable pub step : List Row → ℕ → ℕ → State → State
 step rows t byte s = act rows t (action byte) (named byte) s
 
--- "Positions count from 0": the bytes of a schedule, the first of them at position t
+-- the bytes of a schedule, the first of them at position t; positions go up by one from byte to byte (R70)
 unfoldable pub after : List Row → ℕ → List ℕ → State → State
 after rows t [] s = s
 after rows t (byte ∷ bytes) s = after rows (suc t) bytes (step rows t byte s)
 
--- the state before the first byte
+-- the state before the first byte (R181)
 unfoldable pub begin : ℕ → List ℕ → State
 begin P words = record { words = words; processes = replicate P fresh; log = []; answers = [] }

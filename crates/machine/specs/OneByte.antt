@@ -1,5 +1,5 @@
--- One byte, in the machine's own terms: the named process alone changes unless the byte is a crash of all; and "A step of a process that
--- is down, a step of an idle one with no rows left, a crash of one that is down and a wake of one that is awake change nothing but the position."
+-- One byte, in the machine's own terms: the named process alone changes unless the byte is a crash of all (R74); and a step of one that is down or has
+-- no rows left, a crash of one that is down and a wake of one that is awake change nothing but the position (R140 to R143).
 use Prim.Native.Nat.{ℕ, zero, suc, _≤_, _<_}
 use mathlib.Core.Path.{_≡_, refl, sym, ap, _∙_}
 use mathlib.Core.List.{List, [], _∷_, map}
@@ -72,7 +72,7 @@ module _ (rows : List Row) (t : ℕ) (byte : ℕ) (s : State) where
   unfolding step act
   no-action a = rw a
 
-  -- crashes and wakes touch no word, no log row and no answer row
+  -- crashes and wakes touch no word, no log row and no answer row (R134)
   pub record Untouched (u : State) : Type 0 where
     pub words : u .words ≡ s .words
     pub log : u .log ≡ s .log
@@ -89,7 +89,7 @@ module _ (rows : List Row) (t : ℕ) (byte : ℕ) (s : State) where
       go crashesAll n = record { words = refl; log = refl; answers = refl }
       go idles n = record { words = refl; log = refl; answers = refl }
 
-  -- "Crash of all: every awake process goes down."
+  -- a crash of all brings down every process that is awake (R133)
   pub all-down : action byte ≡ crashesAll → (q : ℕ) → q < length (s .processes) → procAt q (step rows t byte s) ≡ crashed (procAt q s)
   unfolding step act apply procAt
   all-down a q h = rw a (go (s .processes) q h)

@@ -93,7 +93,7 @@ WordNow stride table k words r = r ≡ getD words (rowOfTable stride table k .wo
 abbrev pub WordStored : (stride : ℕ) (table : List ℕ) (k : ℕ) (words : List ℕ) (new : ℕ) (words′ : List ℕ) → Type 0
 WordStored stride table k words new words′ = words′ ≡ set words (rowOfTable stride table k .word) new
 
--- the position with which a false enters the log, as the rule of A5 has it
+-- the position with which a false enters the log at A5 (R166 to R169)
 unfoldable pub falseAt : List Row → Row → List Entry → Work → ℕ
 falseAt rows row log w = cond (eqb (value (w .seen)) (row .old)) (firstSwap rows (row .word) (w .«read_at») (w .«tried_at») log) (w .«read_at»)
 

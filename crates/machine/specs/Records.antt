@@ -1,6 +1,4 @@
--- The process record: document 01, "At any moment a process is down, idle, or in the midst of work with its stage and the word it
--- read, the positions of its A1 and A4, and the answer it is to store. All that is volatile. Kept through a crash: the open row, if
--- any; the stored answer or none; the checkpoint (0 or 1); the kept bit; how many rows it has begun."
+-- The process record: its status, which has all that is volatile (R80 to R83), and what is kept through a crash (R84).
 use Prim.Native.Nat.{ℕ, suc}
 use mathlib.Core.Path.{_≡_}
 use mathlib.Core.List.{List, _++_, map}
@@ -15,7 +13,7 @@ use Rattle.machine.specs.declared.Opened.the-variants.{Closed, Open}
 use Rattle.machine.specs.declared.Status.{Status}
 use Rattle.machine.specs.declared.Status.the-variants.{Down, Idle, N2, N3, Busy}
 
--- "At first all are idle with nothing stored and both bits 0."
+-- the record before the first byte (R86)
 abbrev pub fresh : Process
 fresh = record { status = Idle; opened = Closed; stored = None; checkpoint = false; kept = false; begun = 0 }
 
@@ -36,23 +34,23 @@ with-checkpoint status bit r = record { status = status; opened = r .opened; sto
 abbrev pub with-stored : Status → Maybe → Process → Process
 with-stored status stored r = record { status = status; opened = r .opened; stored = stored; checkpoint = r .checkpoint; kept = r .kept; begun = r .begun }
 
--- "the row is closed, the process idle"
+-- the row is closed, and the process is idle (R116, R125, R126)
 abbrev pub closed : Process → Process
 closed r = record { status = Idle; opened = Closed; stored = r .stored; checkpoint = r .checkpoint; kept = r .kept; begun = r .begun }
 
--- the last of the three stores that announce a row: "then opens the row"; "rows begun" counts it now
+-- N3, the last of the three stores that announce a row: the row is opened, and counts as begun from now on (R103)
 abbrev pub started : ℕ → Process → Process
 started k r = record { status = Busy A1 0 0 0 None; opened = Open k; stored = r .stored; checkpoint = r .checkpoint; kept = r .kept; begun = suc (r .begun) }
 
--- "Crash: an awake process goes down."
+-- a crash: the process is down, and what is kept stays (R130)
 abbrev pub crashed : Process → Process
 crashed r = with-status Down r
 
--- the first n of a list of records brought down, the others as they were
+-- the first n of a list of records brought down, the others as they were (R133)
 abbrev pub downTo : ℕ → List Process → List Process
 downTo n records = map crashed (take n records) ++ drop n records
 
--- "Wake: a process that is down goes to V1 if a row is open, else idle."
+-- a wake: with a row open to V1 (R131), with none idle (R132)
 abbrev pub wokenUp : Opened → Status
 wokenUp Closed = Idle
 wokenUp (Open k) = Busy V1 0 0 0 None
@@ -76,7 +74,7 @@ WorkOpen N2 opened = Unit
 WorkOpen N3 opened = Unit
 WorkOpen (Busy stage word readAt triedAt answer) opened = (k : ℕ) × (opened ≡ Open k)
 
--- in the midst of the announcement: the first store is made, the last is not
+-- in the midst of the announcement (R81): the first store is made, the last is not
 abbrev pub Announcing : Status → Type 0
 Announcing Down = ⊥
 Announcing Idle = ⊥

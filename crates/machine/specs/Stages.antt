@@ -1,4 +1,4 @@
--- The stages and their numbers: A1 to A6 are those of an operation, V1 to V6 those of recovery.
+-- The stages and their numbers (R301): A1 to A6 are those of an operation, V1 to V6 those of recovery.
 use Prim.Native.Nat.{ℕ, _<_}
 use mathlib.Core.Path.{_≡_, refl, sym, ap, _∙_}
 use mathlib.Core.List.{[], _∷_}

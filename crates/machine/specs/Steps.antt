@@ -1,5 +1,5 @@
--- One step of an awake process: document 01, "Steps of an awake process, one per byte". `decide` has a line for each stage. It looks
--- at the record, the row, the word as it stands now and the position, and at nothing else; what it comes to is carried out in Machine.antt.
+-- One step of an awake process (R100 to R127). `decide` has a line for each stage. It looks at the record, the row, the word as it stands now and
+-- the position, and at nothing else; what it comes to is carried out in Machine.antt.
 use Prim.Native.Nat.{ℕ, _+_}
 use mathlib.Core.Path.{_≡_, ap}
 use mathlib.Core.Bool.{Bool, true, false, cond, not}
@@ -25,18 +25,18 @@ use Rattle.machine.specs.declared.Status.the-variants.{Down, Idle, N2, N
 use Rattle.machine.specs.Turn.{Turn, Still, Quiet, Swaps, Logs, Loses, Replies}
 use Rattle.machine.specs.Records.{with-status, with-kept, with-checkpoint, with-stored, closed, started}
 
--- "Verdicts: 0 false, 1 true, 2 fail (answers only), 3 value read. The value is 0 unless the verdict is 3." No answer is fail
+-- what is said, as verdict and value (R161, R162); no answer is fail (R127)
 unfoldable pub spoken : Maybe → Said
 spoken None = record { verdict = 2; value = 0 }
 spoken (Is False) = record { verdict = 0; value = 0 }
 spoken (Is True) = record { verdict = 1; value = 0 }
 spoken (Is (Value v)) = record { verdict = 3; value = v }
 
--- "rows of five numbers: position, process, row number, verdict, value"
+-- a row of the log or of the answers (R160)
 abbrev pub entry : ℕ → ℕ → ℕ → Maybe → Entry
 entry position process row said = record { position = position; process = process; row = row; verdict = spoken said .verdict; value = spoken said .value }
 
--- "A1: read the word. A read row, or a value other than old (answer false), goes to A5; otherwise A2."
+-- A1: the word is read (R111). A read has its answer, and so has a compare that met another value than old; any other goes on to A2
 abbrev pub readBy : Kind → (old word t : ℕ) → Status
 readBy Read old word t = Busy A5 word t 0 (Is (Value (value word)))
 readBy Compare old word t = cond (eqb (value word) old) (Busy A2 word t 0 None) (Busy A5 word t 0 (Is False))
@@ -44,7 +44,7 @@ readBy Compare old word t = cond (eqb (value word) old) (Busy A2 word t 0 None) 
 abbrev pub afterRead : Row → ℕ → ℕ → Status
 afterRead row word t = readBy (kindOf row) (row .old) word t
 
--- "A4: if the whole word, bits included, is still as read, put in new and turn the own flip bit: true. Otherwise false. Then A5."
+-- A4: the swap succeeds if the word is to the bit the word that was read, and is lost otherwise (R114).
 -- What a successful swap says, by the value v that it found, and what is done when it is lost, at position t; a read has no A4
 abbrev pub swapSays : Kind → (v : ℕ) → Answer
 swapSays Read v = True
@@ -61,20 +61,19 @@ tried p t row now r seen readAt =
     (Swaps (with-status (Busy A5 seen readAt t (Is says)) r) (swapped p (newOf row (value seen)) seen) says)
     (Quiet (with-status (lostBy (kindOf row) seen readAt t) r))
 
--- "A5: store the answer." "A swap that succeeds enters the log at A4 with its position. Any other answer enters at A5: a read, or a
--- value that was not old, with the position of its A1; a lost swap (false although the value read was old) with the position of the
--- first successful swap on its word after its A1."
+-- A5: the answer is stored (R115). The log has a successful swap already (R164); a read and a value other than old enter it with the position of
+-- their A1 (R165, R166), and a lost swap with that of the swap that beat it (R167)
 unfoldable pub storing : Row → Process → ℕ → ℕ → ℕ → Maybe → Turn
 storing row next seen readAt triedAt None = Quiet next
 storing row next seen readAt triedAt (Is True) = Quiet next
 storing row next seen readAt triedAt (Is (Value v)) = Logs next readAt (Value v)
 storing row next seen readAt triedAt (Is False) = cond (eqb (value seen) (row .old)) (Loses next readAt triedAt) (Logs next readAt False)
 
--- "V4: store true", as its swap said, which found old; no other value is at hand then
+-- V4 stores true (R124), as its swap said, which found old; no other value is at hand then
 abbrev pub recalled : Row → Answer
 recalled row = swapSays (kindOf row) (row .old)
 
--- "V1: an answer stored goes to V5, else V2."
+-- V1: with an answer stored to V5, with none to V2 (R121)
 abbrev pub recovered : Maybe → Stage
 recovered (Is a) = V5
 recovered None = V2
@@ -98,9 +97,9 @@ decide row p t now r V4 seen readAt triedAt answer = Quiet (with-stored (Busy V5
 decide row p t now r V5 seen readAt triedAt answer = Replies (closed r) (r .stored)
 decide row p t now r V6 seen readAt triedAt answer = Replies (closed r) None
 
--- "A step of a process that is down, a step of an idle one with no rows left .. change nothing". A row is announced by three stores,
--- a step each: an idle process with rows left "clears the stored answer, then clears the checkpoint, then opens the row". A process in the
--- midst of work has a row open: that is `row`, and `now` is its word. The process has `count` rows, the first of which is row number `first`
+-- A step of a process that is down changes nothing (R140), nor does one of an idle process with no rows left (R141). A row is announced by three
+-- stores, a step each: the stored answer is cleared (R101), the checkpoint becomes 0 (R102), the row is opened (R103). A process in the midst of
+-- work has a row open: that is `row`, and `now` is its word. The process has `count` rows, the first of which is row number `first`
 abbrev pub atWork : Row → (p t now : ℕ) → Process → Opened → Stage → (seen readAt triedAt : ℕ) → Maybe → Turn
 atWork row p t now r Closed stage seen readAt triedAt answer = Still
 atWork row p t now r (Open k) stage seen readAt triedAt answer = decide row p t now r stage seen readAt triedAt answer

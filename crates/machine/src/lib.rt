@@ -1,7 +1,7 @@
 // The machine: a process's record, and what one step does with it, with a word and with the log.
 //
-// What a byte means stands in specs/Steps and specs/Machine. Here are the small functions of which a step consists;
-// the crate `engine` goes through a schedule with them.
+// What a byte means stands in specs/Steps and specs/Machine (R70 to R173). Here are the record and the small functions
+// of which a step consists; the crate `engine` runs schedules with them.
 mod operation;
 mod records;
 mod recovery;
@@ -23,7 +23,7 @@ pub use recovery::recovered_of;
 pub use recovery::reply_of;
 pub use said::entry_of;
 
-// The stages of an operation and of recovery.
+// The stages of an operation and of recovery (R82).
 pub enum Stage {
     A1,
     A2,
@@ -45,7 +45,7 @@ pub enum Answer {
     Value(u32),
 }
 
-// An answer, or none: the stored one, the one to store, and what is returned (none is fail).
+// An answer, or none: the stored one, the one to store, and what is returned (none is fail; R85).
 pub enum Maybe {
     None,
     Is(Answer),
@@ -57,8 +57,9 @@ pub enum Opened {
     Open(u16),
 }
 
-// All that is volatile stands here, so a crash cannot forget to clear any of it. A row is announced by three
-// stores: an idle process makes the first, and is then at N2 and at N3, where the others are to be made.
+// All that is volatile stands here, so a crash cannot forget to clear any of it (R83, R300). A row is announced by
+// three stores (R101 to R103): an idle process makes the first, and is then at N2 and at N3, where the others are to
+// be made.
 pub enum Status {
     Down,
     Idle,
@@ -73,7 +74,7 @@ pub enum Status {
     },
 }
 
-// A process: its status, and what is kept through a crash.
+// A process: its status, and what is kept through a crash (R84).
 pub struct Process {
     pub status: Status,
     pub opened: Opened,
@@ -83,8 +84,7 @@ pub struct Process {
     pub begun: u16,
 }
 
-// Work in hand: the process, its open row, the word it read, the positions of its A1 and A4, and the answer that it
-// is to store.
+// Work in hand, as A5 takes it: the process, its open row, and what it has in the midst of it (R82).
 pub struct Work {
     pub process: u8,
     pub row: u16,

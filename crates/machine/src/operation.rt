@@ -30,7 +30,7 @@ pub fn store_word(table: &[u8], stride: usize, k: usize, words: &mut [u32], new:
     words[w] = new;
 }
 
-// A1, once the word is read at this position: a read is done, and so is a compare that meets another value.
+// A1, once the word is read at this position: a read is done, and so is a compare that meets another value (R111).
 pub fn after_read(row: Row, word: u32, position: u16) -> Status
     ensures { λ r. ⌜ AfterRead row word position r ⌝ }
 {
@@ -66,8 +66,8 @@ pub fn after_read(row: Row, word: u32, position: u16) -> Status
     }
 }
 
-// The position with which a "false" enters the log: a lost swap, whose value was old, takes that of the first swap on
-// its word after its A1; any other that of its A1.
+// The position with which a false enters the log: a lost swap, which had read old, takes that of the swap that beat it
+// (R167, R168); any other that of its A1 (R166).
 fn false_at(table: &[u8], stride: usize, n: usize, log: &[u32], log_rows: usize, work: Work) -> u32
     requires { ⌜ Looked stride (now table) n (work .row) (now log) «log_rows» ⌝ }
     ensures { λ r. ⌜ FalseAt stride (now (table .entry)) n (now (log .entry)) «log_rows» work r ⌝ }
@@ -87,7 +87,8 @@ fn false_at(table: &[u8], stride: usize, n: usize, log: &[u32], log_rows: usize,
     read_at
 }
 
-// A5: puts into the log what it gets of the answer that is stored. Answers how many rows the log has then.
+// A5: puts into the log what it gets of the answer that is stored (R164 to R167). Answers how many rows the log has
+// then.
 pub fn enter(
     table: &[u8],
     stride: usize,

@@ -7,7 +7,7 @@ use super::Status;
 ghost use Prim.Native.Nat.{_+_, _<_};
 ghost use Rattle.machine.specs.Promises.{Fresh, StageNumbered, OpenRow, AtWork, Started, AtMostSixteen, CrashedFirst};
 
-// "At first all are idle with nothing stored and both bits 0."
+// The record before the first byte (R86).
 pub fn fresh() -> Process
     ensures { λ r. ⌜ Fresh r ⌝ }
 {
@@ -21,7 +21,7 @@ pub fn fresh() -> Process
     }
 }
 
-// The place of a stage in the list A1 to A6, V1 to V6.
+// The place of a stage in the list A1 to A6, V1 to V6 (R301).
 pub fn stage_number(stage: Stage) -> u8
     ensures { λ r. ⌜ StageNumbered stage r ⌝ }
 {
@@ -64,7 +64,7 @@ pub fn busy(stage: Stage, word: u32, read_at: u16, tried_at: u16, answer: Maybe)
     }
 }
 
-// N3: opens the next of the rows that begin at row `first`; it is begun now.
+// N3: opens the next of the rows that begin at row `first`; it is begun now (R103).
 pub fn start(process: Process, first: u16) -> Process
     requires { ⌜ first + process .begun < 65535 ⌝ }
     ensures { λ r. ⌜ Started process first r ⌝ }

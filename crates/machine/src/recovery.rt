@@ -4,7 +4,7 @@ use super::Stage;
 ghost use Prim.Native.Nat.{_<_};
 ghost use Rattle.machine.specs.Promises.{RecoveredBy, ByCheckpoint, ByBit, Replied};
 
-// V1: "an answer stored goes to V5, else V2".
+// V1: by whether an answer is stored (R121).
 pub fn recovered_of(stored: Maybe) -> Stage
     ensures { λ r. ⌜ RecoveredBy stored r ⌝ }
 {
@@ -14,14 +14,14 @@ pub fn recovered_of(stored: Maybe) -> Stage
     }
 }
 
-// V2: "checkpoint 0 goes to V6, else V3".
+// V2: by the checkpoint (R122).
 pub fn by_checkpoint(checkpoint: bool) -> Stage
     ensures { λ r. ⌜ ByCheckpoint checkpoint r ⌝ }
 {
     if checkpoint { Stage::V3 } else { Stage::V6 }
 }
 
-// V3: "the own flip bit equal to the kept bit goes to V4, else V6".
+// V3: by whether the own flip bit is the kept bit (R123).
 pub fn by_bit(me: u8, now: u32, kept: bool) -> Stage
     requires { ⌜ me < 16 ⌝ }
     ensures { λ r. ⌜ ByBit me now kept r ⌝ }
@@ -33,7 +33,7 @@ pub fn by_bit(me: u8, now: u32, kept: bool) -> Stage
     }
 }
 
-// What is returned: the answer at A6 (number 5), the stored one at V5 (number 10), and fail at V6.
+// What is returned: the answer at A6 (number 5; R116), the stored one at V5 (number 10; R125), and fail at V6 (R126).
 pub fn reply_of(number: u8, answer: Maybe, stored: Maybe) -> Maybe
     ensures { λ r. ⌜ Replied number answer stored r ⌝ }
 {

@@ -1,4 +1,4 @@
-// What is said, as the five numbers of a row.
+// What is said, as the five numbers of a row (R160).
 use super::Answer;
 use super::Maybe;
 use rows::Entry;
@@ -6,7 +6,7 @@ ghost use mathlib.Core.Path.{_≡_};
 ghost use Rattle.machine.specs.Promises.{EntryMade};
 ghost use Rattle.machine.specs.Steps.{spoken};
 
-// The verdict that the paper gives what is said.
+// The verdict (R161).
 fn verdict_of(said: Maybe) -> u32
     ensures { λ r. ⌜ r ≡ spoken said .verdict ⌝ }
 {
@@ -20,7 +20,7 @@ fn verdict_of(said: Maybe) -> u32
     }
 }
 
-// "The value is 0 unless the verdict is 3."
+// The value: 0 for all but a value read (R162).
 fn value_said(said: Maybe) -> u32
     ensures { λ r. ⌜ r ≡ spoken said .value ⌝ }
 {
