@@ -1,13 +1,12 @@
 -- Demand 3 of the bench machine, for all rows that pass the refusals, all start words and all schedules: what is known of each row, put
 -- together.
-use Prim.Native.Nat.{ℕ, _+_, _≤_, _<_}
+use Prim.Native.Nat.{ℕ, _+_}
 use mathlib.Core.Path.{_≡_, sym, _∙_, ap, subst}
 use mathlib.Core.List.{List, map}
 use lib.ListN.{length, take, length-map}
 use Rattle.runfile.specs.declared.Row.{Row}
 use Rattle.runfile.specs.Operations.{rowNumbered}
 use Rattle.word.specs.Word.{value}
-use Rattle.rows.specs.declared.Entry.{Entry}
 use Rattle.machine.specs.Machine.{State, procAt, after, begin}
 use Rattle.replay.specs.Replay.{replayed}
 use Rattle.demand3.specs.Statement.{Firmware, ownerOf, Begun, StillOpen, Ended, through, Demand3, Meets}
@@ -19,6 +18,7 @@ use Rattle.demand3.specs.Order.{Always, good, inv}
 use Rattle.demand3.specs.Lost.{beaten}
 use Rattle.demand3.specs.Told as told
 use Rattle.demand3.specs.Positions.{log-time, answer-time, log-first}
+use Rattle.demand3.specs.Reads.{read-time}
 
 module _ (rows : List Row) (words : List ℕ) (P : ℕ) (plan : Plan P (length words) rows) (schedule : List ℕ) where
   abbrev m : Firmware
@@ -60,6 +60,7 @@ module _ (rows : List Row) (words : List ℕ) (P : ℕ) (plan : Plan P (length w
             subst (λ s. Beaten rows (rowNumbered rows k .word) readAt (s .log)) (sym (reached (take n schedule)))
             (beaten rows words P plan (take n schedule) (ownerOf rows k) (plan .present k h) k seen readAt triedAt (subst (StillOpen m rows k) (reached (take n schedule)) o)
             (ap (λ s. procAt (ownerOf rows k) s .status) (sym (reached (take n schedule))) ∙ e) old);
+        read-times = read-time rows words P plan schedule;
       }
 
   -- and so of what the machine itself shows at the end

@@ -1,20 +1,25 @@
 -- The bench machine, which turns flip bits (R114), as demand 3 sees it; and demand 3 of it, with what is said besides of its stages.
 use Prim.Native.Nat.{ℕ, suc, _<_}
 use mathlib.Core.Path.{_≡_, refl}
+use mathlib.Core.Bool.{false}
 use mathlib.Core.List.{List, [], _∷_}
 use lib.ListN.{length}
 use Rattle.runfile.specs.declared.Row.{Row}
 use Rattle.runfile.specs.Operations.{rowNumbered}
 use Rattle.word.specs.Word.{value}
 use Rattle.rows.specs.declared.Entry.{Entry}
+use Rattle.rows.specs.Entries.{said, isSwapped}
 use Rattle.rows.specs.Log.{isSwap, firstSwap}
 use Rattle.machine.specs.declared.Answer.the-variants.{False}
-use Rattle.machine.specs.declared.Maybe.the-variants.{Is}
-use Rattle.machine.specs.declared.Stage.the-variants.{A5}
+use Rattle.machine.specs.declared.Maybe.{Maybe}
+use Rattle.machine.specs.declared.Maybe.the-variants.{None, Is}
+use Rattle.machine.specs.declared.Stage.the-variants.{A2, A5}
+use Rattle.machine.specs.declared.Status.{Status}
 use Rattle.machine.specs.declared.Status.the-variants.{Busy}
+use Rattle.machine.specs.Steps.{spoken}
 use Rattle.machine.specs.Machine.{State, procAt, step, after, begin}
 use Rattle.replay.specs.Lists.{Found}
-use Rattle.demand3.specs.Statement.{Firmware, ownerOf, through, StillOpen, stateAfter, Demand3}
+use Rattle.demand3.specs.Statement.{Firmware, of, ownerOf, through, StillOpen, stateAfter, Demand3}
 
 -- a machine that has the states of the bench machine, and whose bytes do this, for P processes and these start words
 abbrev pub machineOf : ((t byte : ℕ) → State → State) → ℕ → List ℕ → Firmware
@@ -48,6 +53,19 @@ pub record Beaten (rows : List Row) (w a : ℕ) (log : List Entry) : Type 0 wher
   pub front-most : Found (isSwap rows w a) log by
   pub position : (otherwise : ℕ) → firstSwap rows w a otherwise log ≡ by .position
 
+module _ (rows : List Row) (P : ℕ) (words schedule : List ℕ) where
+  -- after the byte at position a row k is open, and its process has this status
+  pub record Then (k a : ℕ) (status : Status) : Type 0 where
+    pub opened : StillOpen (flipBit rows P words) rows k (stateAfter (flipBit rows P words) schedule (suc a))
+    pub is : procAt (ownerOf rows k) (stateAfter (flipBit rows P words) schedule (suc a)) .status ≡ status
+
+  -- In time: e, the log row of row k, tells of no swap. It has the position of its A1, which went to A5 with the answer that e tells; or it is that
+  -- of a lost swap, whose A1 found old and went to A2, and has the position of the swap that beat it: the front-most on its word after its A1
+  pub data ReadThen (k : ℕ) (e : Entry) (log : List Entry) : Type 0 where
+    at-read : (seen : ℕ) (answer : Maybe) → said e ≡ spoken answer → Then k (e .position) (Busy A5 seen (e .position) 0 answer) → ReadThen k e log
+    at-loss : (seen readAt : ℕ) (by : Entry) → said e ≡ spoken (Is False) → value seen ≡ rowNumbered rows k .old → Then k readAt (Busy A2 seen readAt 0 None)
+        → Found (isSwap rows (rowNumbered rows k .word) readAt) log by → e .position ≡ by .position → ReadThen k e log
+
 -- Demand 3 of this machine
 pub record OfFlipBit (rows : List Row) (P : ℕ) (words schedule : List ℕ) (log answers : List Entry) (values : List ℕ) : Type 0 where
   pub demand : Demand3 (flipBit rows P words) rows schedule log answers values
@@ -55,3 +73,5 @@ pub record OfFlipBit (rows : List Row) (P : ℕ) (words schedule : List ℕ) (lo
   pub beaten : (n k seen readAt triedAt : ℕ) → k < length rows → StillOpen (flipBit rows P words) rows k (stateAfter (flipBit rows P words) schedule n)
       → procAt (ownerOf rows k) (stateAfter (flipBit rows P words) schedule n) .status ≡ Busy A5 seen readAt triedAt (Is False) → value seen ≡ rowNumbered rows k .old
       → Beaten rows (rowNumbered rows k .word) readAt (stateAfter (flipBit rows P words) schedule n .log)
+  -- positions of what is no swap: that of its A1, or that of the swap that beat it
+  pub read-times : (k : ℕ) → k < length rows → (e : Entry) → of k log ≡ e ∷ [] → isSwapped (said e) ≡ false → ReadThen rows P words schedule k e log

@@ -14,6 +14,7 @@ pub mod Order
 pub mod Lost
 pub mod Told
 pub mod Positions
+pub mod Reads
 pub mod Demand
 pub mod File
 pub mod Wrong

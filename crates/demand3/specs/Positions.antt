@@ -12,18 +12,18 @@ use lib.ListN.{length, getD, set, take, drop, take-append-drop}
 use lib.Seq.{take-suc, take-take, take-length, length-take-le}
 use borrow.Author.Tests.{eq-eqb, eqb-true, eqb-false, ltb-true, ltb-false}
 use Rattle.runfile.specs.declared.Row.{Row}
-use Rattle.runfile.specs.Operations.{rowNumbered, first, count}
+use Rattle.runfile.specs.Operations.{first, count}
 use Rattle.runfile.specs.Actions.{named}
 use Rattle.word.specs.Word.{value}
 use Rattle.rows.specs.declared.Entry.{Entry}
 use Rattle.rows.specs.Entries.{said, isSwapped}
 use Rattle.machine.specs.declared.Opened.{Opened}
 use Rattle.machine.specs.declared.Opened.the-variants.{Closed, Open}
-use Rattle.machine.specs.Machine.{State, Effect, quiet, swaps, logs, replies, procAt, step, after, begin}
+use Rattle.machine.specs.Machine.{State, quiet, swaps, logs, replies, procAt, step, after, begin}
 use Rattle.machine.specs.Laws.{after-join, after-snoc, closed-open}
-use Rattle.replay.specs.Lists.{All, all-put, all-join, all-right, keep, keep-put-yes, append-empty-right, Found, keep-found}
+use Rattle.replay.specs.Lists.{All, all-put, all-join, all-right, keep-put-yes, append-empty-right, Found, keep-found}
 use Rattle.replay.specs.Logs.{Put, put}
-use Rattle.demand3.specs.Statement.{Firmware, of, ownerOf, wordOf, isRow, Begun, StillOpen, Ended, swapsAt, stateAfter, LoggedThen, AnsweredThen}
+use Rattle.demand3.specs.Statement.{Firmware, of, ownerOf, isRow, Begun, StillOpen, Ended, swapsAt, stateAfter, LoggedThen, AnsweredThen}
 use Rattle.demand3.specs.FlipBit.{flipBit}
 use Rattle.demand3.specs.Invariant.{Times, Inv, IsOpen, Local, Swapping, Allowed}
 use Rattle.demand3.specs.Plans.{Plan}
@@ -45,7 +45,7 @@ of-all Q k l e h is =
     (all-right Q (d .front) (e ∷ d .back) (subst (All Q) (d .whole) h) .0, eqb-true (e .row) k (d .passes))
 
 -- one more in the log
-put-all : (Q : Entry → Type 0) {l l′ : List Entry} (e : Entry) → Put e l l′ → Q e → All Q l → All Q l′
+pub put-all : (Q : Entry → Type 0) {l l′ : List Entry} (e : Entry) → Put e l l′ → Q e → All Q l → All Q l′
 put-all Q e p q h = subst (All Q) (sym (p .now)) (all-put Q (p .front) (p .back) e q (subst (All Q) (p .was) h))
 
 -- where the last is of row k, row k stands there
@@ -108,7 +108,7 @@ module _ (rows : List Row) (words : List ℕ) (P : ℕ) (plan : Plan P (length w
   has-later k a b h g = let f : procAt (ownerOf rows k) (at a) .begun ≤ procAt (ownerOf rows k) (at b) .begun = begun-stays (ownerOf rows k) a b h in omega arith
 
   -- the open row of a process that is there
-  opened : (n : ℕ) → n ≤ length schedule → (p k : ℕ) → procAt p (at n) .opened ≡ Open k → p < P
+  pub opened : (n : ℕ) → n ≤ length schedule → (p k : ℕ) → procAt p (at n) .opened ≡ Open k → p < P
   opened n h p k o = go (ltb p P) refl
     where
       go : (c : Bool) → ltb p P ≡ c → p < P
@@ -116,7 +116,7 @@ module _ (rows : List Row) (words : List ℕ) (P : ℕ) (plan : Plan P (length w
       go false e =
           absurd (closed-open (sym (ap (λ r. r .opened) (absent rows start (good rows words P plan) (own rows words P plan) Always (λ k a b h g. tt) n (at n) (λ p k o. tt) P (inv-at n h) p (ltb-false p P e))) ∙ o))
 
-  owned : (n : ℕ) (h : n ≤ length schedule) (p k : ℕ) (o : procAt p (at n) .opened ≡ Open k) → ownerOf rows k ≡ p
+  pub owned : (n : ℕ) (h : n ≤ length schedule) (p k : ℕ) (o : procAt p (at n) .opened ≡ Open k) → ownerOf rows k ≡ p
   owned n h p k o =
       let l : Local rows start Always p n (at n) (procAt p (at n)) = inv-at n h .local p (opened n h p k o) in
       let w : IsOpen rows start p k (at n) (procAt p (at n)) = l .opened k o in
@@ -138,7 +138,7 @@ module _ (rows : List Row) (words : List ℕ) (P : ℕ) (plan : Plan P (length w
       (λ n h v. subst (Inv rows start Has P (suc n)) (sym (next n h)) (inv-step rows start (good rows words P plan) (own rows words P plan) Has has-later n (at n) (has-now n (omega arith)) P v (byte n)))
 
   -- what the byte at n does
-  what : (n : ℕ) → n < length schedule → Does rows start Always (named (byte n)) n (at n) (at (suc n))
+  pub what : (n : ℕ) → n < length schedule → Does rows start Always (named (byte n)) n (at n) (at (suc n))
   what n h =
       subst (Does rows start Always (named (byte n)) n (at n)) (sym (next n h))
       (does rows start (good rows words P plan) (own rows words P plan) Always (λ k a b h g. tt) P n (at n) (λ p k o. tt) (inv-at n (omega arith)) (byte n))
