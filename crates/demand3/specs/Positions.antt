@@ -34,8 +34,8 @@ use Rattle.demand3.specs.Announce.{never-falls}
 use Rattle.demand3.specs.Order.{Always, good, own, inv}
 use Rattle.demand3.specs.Told.{reached, stays}
 
-open-same : {j k : ℕ} → Open j ≡ Open k → j ≡ k
-open-same e = cc
+pub open-same : {j k : ℕ} {o : Opened} → o ≡ Open j → o ≡ Open k → j ≡ k
+open-same e f = cc
 
 -- what holds of all holds of the one of row k
 pub of-all : (Q : Entry → Type 0) (k : ℕ) (l : List Entry) (e : Entry) → All Q l → of k l ≡ e ∷ [] → Q e × (e .row ≡ k)
@@ -257,7 +257,7 @@ module _ (rows : List Row) (words : List ℕ) (P : ℕ) (plan : Plan P (length w
             where
               row : (c : Bool) → eqb j k ≡ c → procAt (ownerOf rows k) (at (e .position)) .opened ≡ Open k
               row true d = q ∙ ap Open (eqb-true j k d)
-              row false d = absurd (not-shut (λ o. eqb-false j k d (open-same (sym q ∙ o))))
+              row false d = absurd (not-shut (λ o. eqb-false j k d (open-same q o)))
 
       swap-then : isSwapped (said e) ≡ true → swapsAt m rows k (e .position) (byte (e .position)) (at (e .position)) ≡ true
       swap-then t =

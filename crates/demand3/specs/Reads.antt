@@ -46,13 +46,10 @@ use Rattle.demand3.specs.Moves.{Does, nothing, allowed}
 use Rattle.demand3.specs.Order.{Always}
 use Rattle.demand3.specs.Lost.{beaten}
 use Rattle.demand3.specs.Told.{reached}
-use Rattle.demand3.specs.Positions.{of-all, put-all, at, byte, next, along, end-at, inv-at, opened, owned, what}
+use Rattle.demand3.specs.Positions.{open-same, of-all, put-all, at, byte, next, along, end-at, inv-at, opened, owned, what}
 
 found-keep : {A : Type 0} (f : A → Bool) (l : List A) (x : A) (d : Found f l x) → keep f l ≡ x ∷ keep f (d .back)
 found-keep f l x d = ap (keep f) (d .whole) ∙ keep-join f (d .front) (x ∷ d .back) ∙ rw (keep-none f (d .front) (d .none), d .passes) refl
-
-open-same : {j k : ℕ} {o : Opened} → o ≡ Open j → o ≡ Open k → j ≡ k
-open-same e f = cc
 
 value-not : {v : ℕ} → Is (Value v) ≡ Is False → ⊥
 value-not e = let z : _≡_ {A = ℕ} 0 1 = cc in omega arith

@@ -1,4 +1,4 @@
--- Three wrong machines, held against demand 3, which is said of each one's own states. Each differs from the bench machine in one rule, and each
+-- Four wrong machines, held against demand 3, which is said of each one's own states. Each differs from the bench machine in one rule, and each
 -- has a short run that breaks the statement, by computation: so it is not a statement that any machine would meet.
 use Prim.Native.Nat.{ℕ, _+_, _<_}
 use mathlib.Core.Path.{_≡_, refl, sym, _∙_, ap, subst}
@@ -28,7 +28,7 @@ use Rattle.machine.specs.Records.{with-status, with-checkpoint, started, rowOpe
 use Rattle.machine.specs.Steps.{spoken, tried, storing, decide, stepTurn}
 use Rattle.machine.specs.Machine.{State, Move, moveOf, applied, apply, procAt, turn, act, step, after, begin}
 use Rattle.replay.specs.Plain.{answerOf, leaves}
-use Rattle.demand3.specs.Statement.{Firmware, of, Once, Logged, ownerOf, through, Ended, endState, Meets}
+use Rattle.demand3.specs.Statement.{Firmware, of, Once, Logged, ownerOf, through, Ended, stateAfter, endState, Meets}
 use Rattle.demand3.specs.FlipBit.{machineOf}
 use Rattle.machine.specs.Laws.{closed-open}
 
@@ -196,3 +196,45 @@ unfolding early earlyRows
 early-breaks d =
     let t = d .ended 1 (omega arith) early-ended in
     told-alone (ownerOf earlyRows 1) 1 (record { position = 17; process = 0; row = 1; verdict = 1; value = 0 }) (early .log) (early .answers) told-early refl early-unlogged (t .answer) (t .answered) (t .logged)
+
+-- 4. A read logged at the position that the record keeps for the A4, which a read has not
+pub keptPosition : Status → ℕ
+keptPosition Down = 0
+keptPosition Idle = 0
+keptPosition N2 = 0
+keptPosition N3 = 0
+keptPosition (Busy stage seen readAt triedAt answer) = triedAt
+
+pub atItsTry : Row → (now next : ℕ) → Process → Turn → Turn
+atItsTry row now k r Still = Still
+atItsTry row now k r (Quiet next) = Quiet next
+atItsTry row now k r (Swaps next x says) = Swaps next x says
+atItsTry row now k r (Logs next q a) = Logs next (keptPosition (r .status)) a
+atItsTry row now k r (Loses next after otherwise) = Loses next after otherwise
+atItsTry row now k r (Replies next said) = Replies next said
+
+-- a worker announces a read, reads and stores its answer: all is right but the position
+pub readRows : List Row
+readRows = record { process = 0; kind = 0; word = 0; old = 0; new = 0 } ∷ []
+
+pub readSchedule : List ℕ
+readSchedule = replicate 5 0x00
+
+abbrev pub reading : Firmware
+reading = wrong atItsTry readRows 1 (7 ∷ [])
+
+pub read : State
+read = endState reading readSchedule
+
+logged-first : of 0 (read .log) ≡ record { position = 0; process = 0; row = 0; verdict = 3; value = 7 } ∷ []
+unfolding read readRows readSchedule atItsTry keptPosition turnBy actBy stepBy through of rowNumbered first count valueIn bitIn swappedIn bitOf turnOf flipsIn isSwapped onePast place insert spoken tried storing decide stepTurn applied apply procAt turn act step after begin
+logged-first = refl
+
+-- no row was open when the first byte came
+closed-then : procAt 0 (stateAfter reading readSchedule 0) .opened ≡ Closed
+unfolding readRows readSchedule through procAt begin
+closed-then = refl
+
+pub read-breaks : Meets reading readRows readSchedule → ⊥
+unfolding read readRows rowNumbered
+read-breaks d = closed-open (sym closed-then ∙ d .log-times 0 (omega arith) (record { position = 0; process = 0; row = 0; verdict = 3; value = 7 }) logged-first .open-then)
