@@ -2,7 +2,7 @@
 -- words (`Plain.antt`). A machine is given by its states, its step and what is to be seen of a state (`Firmware`); that an operation has begun,
 -- has ended, has swapped or has stored its answer is said of that machine's own states, and the log is not asked. `FlipBit.antt` gives the
 -- bench machine, `File.antt` proves the demand of every run file that is not refused, and of what `run` leaves in the three buffers;
--- `Wrong.antt` gives three machines that break it.
+-- `Wrong.antt` gives four machines that break it.
 --
 -- An operation is a row of the file, known by its number k.
 use Prim.Native.Nat.{ℕ, suc, _+_, _≤_, _<_}
