@@ -1,4 +1,5 @@
 pub mod Run
+pub mod Promises
 pub mod Only
 pub mod Parts
 pub mod FirstBytes

@@ -1,14 +1,13 @@
 // The start words of a file, written into a buffer of as many numbers.
 use runfile::Header;
-ghost use mathlib.Core.Path.{_≡_};
 ghost use Prim.Native.Nat.{_≤_};
 ghost use lib.ListN.{length};
 ghost use Rattle.runfile.specs.Layout.{wordPlace};
-ghost use Rattle.runfile.specs.Operations.{wordsFrom};
+ghost use Rattle.run.specs.Promises.{Loaded};
 
 pub fn load_words(file: &[u8], header: Header, words: &mut [u32])
     requires { ⌜ wordPlace (header .version) (length (now words)) ≤ length (now file) ⌝ }
-    ensures { λ _. ⌜ now (words .exit) ≡ wordsFrom (header .version) (now (file .entry)) (length (now (words .entry))) ⌝ }
+    ensures { λ _. ⌜ Loaded (now (file .entry)) header (now (words .entry)) (now (words .exit)) ⌝ }
 {
     let mut i = 0;
     while i < words.len() {

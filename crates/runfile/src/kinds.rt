@@ -2,7 +2,8 @@
 use super::Kind;
 use super::Row;
 ghost use mathlib.Core.Path.{_≡_};
-ghost use Rattle.runfile.specs.Kinds.{kindNumbered, kindOf};
+ghost use Rattle.runfile.specs.Kinds.{kindNumbered};
+ghost use Rattle.runfile.specs.Promises.{KindRead};
 
 // Kind 0 reads (R11); a number that is no kind's is refused under 9 (R49b), and goes with 1 elsewhere.
 pub fn kind_numbered(number: u8) -> Kind
@@ -15,7 +16,7 @@ pub fn kind_numbered(number: u8) -> Kind
 }
 
 pub fn kind_of(row: Row) -> Kind
-    ensures { λ r. ⌜ r ≡ kindOf row ⌝ }
+    ensures { λ r. ⌜ KindRead row r ⌝ }
 {
     kind_numbered(row.kind)
 }

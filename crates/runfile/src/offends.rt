@@ -12,6 +12,7 @@ ghost use Prim.Native.Nat.{_+_, _≤_, _<_};
 ghost use lib.ListN.{length};
 ghost use Rattle.runfile.specs.Format.{RowSize, longestOfAll};
 ghost use Rattle.runfile.specs.Layout.{numberAt, rowAt, rowPlace, zeroByteAt};
+ghost use Rattle.runfile.specs.Promises.{ByteJudged};
 ghost use Rattle.runfile.specs.Refusals.{zeroOld, zeroNew, badNumber, badField, sameFields, badByte, below, same, firstBadField, firstRow, firstLaterRow, firstByte};
 
 // The order in which a row's fields are looked at: that of the file (R36).
@@ -92,7 +93,7 @@ fn is_same(file: &[u8], at: usize, stride: usize) -> bool
 
 // Refusal 12, of one byte: a step, a crash and a wake name a process, 3 to 14 are no action, a crash of all names none (R73).
 pub fn is_bad_byte(byte: u8, processes: u8) -> bool
-    ensures { λ r. ⌜ r ≡ badByte processes byte ⌝ }
+    ensures { λ r. ⌜ ByteJudged byte processes r ⌝ }
 {
     match byte / 16 {
         0..=2 => byte % 16 >= processes,

@@ -9,7 +9,8 @@ ghost use mathlib.Core.Path.{_≡_};
 ghost use Prim.Native.Nat.{_+_, _*_, _≤_, _<_};
 ghost use lib.ListN.{length};
 ghost use Rattle.runfile.specs.Format.{leastHead, RowSize};
-ghost use Rattle.runfile.specs.Layout.{u16At, u32At, numberAt, rowOfTable, HasRow, marked, headerIn, wordIn, wordPlace, rowsStart, strideOf, scheduleStart, lengthGiven};
+ghost use Rattle.runfile.specs.Layout.{u16At, numberAt, rowOfTable, HasRow, marked, headerIn, wordPlace, lengthGiven};
+ghost use Rattle.runfile.specs.Promises.{Index8, Index16, FourBytes, RowRead, RowWord, HeaderOrZeros, StartWord, Stride, RowsStart, ScheduleStart};
 
 // A byte or a number of two bytes, widened: nothing is lost, and the bound goes with it.
 pub fn wide8(x: u8) -> u16
@@ -19,13 +20,13 @@ pub fn wide8(x: u8) -> u16
 }
 
 pub fn index8(x: u8) -> usize
-    ensures { λ r. ⌜ (r ≡ x) × (r < 256) ⌝ }
+    ensures { λ r. ⌜ Index8 x r ⌝ }
 {
     x as usize
 }
 
 pub fn index16(x: u16) -> usize
-    ensures { λ r. ⌜ (r ≡ x) × (r < 65536) ⌝ }
+    ensures { λ r. ⌜ Index16 x r ⌝ }
 {
     x as usize
 }
@@ -47,7 +48,7 @@ fn wide32(x: u8) -> u32
 // A number of four bytes, low byte first.
 pub fn u32_at(file: &[u8], at: usize) -> u32
     requires { ⌜ at + 4 ≤ length (now file) ⌝ }
-    ensures { λ r. ⌜ r ≡ u32At (now (file .entry)) at ⌝ }
+    ensures { λ r. ⌜ FourBytes (now (file .entry)) at r ⌝ }
 {
     wide32(file[at])
         + wide32(file[at + 1]) * 256
@@ -66,7 +67,7 @@ pub fn number_at(file: &[u8], at: usize, stride: usize) -> u16
 // Row k of a table of rows, which are so many bytes from one to the next.
 pub fn row_at(table: &[u8], stride: usize, k: usize) -> Row
     requires { ⌜ HasRow stride (now table) k ⌝ }
-    ensures { λ r. ⌜ r ≡ rowOfTable stride (now (table .entry)) k ⌝ }
+    ensures { λ r. ⌜ RowRead stride (now (table .entry)) k r ⌝ }
 {
     let at = k * stride;
     let new_at = at + new_place(stride);
@@ -90,7 +91,7 @@ pub fn process_of_row(table: &[u8], stride: usize, k: usize) -> u8
 
 pub fn word_of_row(table: &[u8], stride: usize, k: usize) -> u8
     requires { ⌜ HasRow stride (now table) k ⌝ }
-    ensures { λ r. ⌜ r ≡ rowOfTable stride (now (table .entry)) k .word ⌝ }
+    ensures { λ r. ⌜ RowWord stride (now (table .entry)) k r ⌝ }
 {
     let at = k * stride + 2;
     table[at]
@@ -124,7 +125,7 @@ pub fn header_of(file: &[u8]) -> Header
 
 // The header of any file: one that is too short to have a header gives zeros.
 pub fn header_or_zeros(file: &[u8]) -> Header
-    ensures { λ r. ⌜ (leastHead ≤ length (now (file .entry)) → r ≡ headerIn (now (file .entry))) ⌝ }
+    ensures { λ r. ⌜ HeaderOrZeros (now (file .entry)) r ⌝ }
 {
     if file.len() < 11 {
         return Header {
@@ -141,26 +142,26 @@ pub fn header_or_zeros(file: &[u8]) -> Header
 // The start word i.
 pub fn word_at(file: &[u8], header: Header, i: usize) -> u32
     requires { ⌜ wordPlace (header .version) (i + 1) ≤ length (now file) ⌝ }
-    ensures { λ r. ⌜ r ≡ wordIn (header .version) (now (file .entry)) i ⌝ }
+    ensures { λ r. ⌜ StartWord header (now (file .entry)) i r ⌝ }
 {
     let at = head_size(header.version) + i * word_size(header.version);
     u32_at(file, at)
 }
 
 pub fn stride_of(header: Header) -> usize
-    ensures { λ r. ⌜ (r ≡ strideOf header) × RowSize r ⌝ }
+    ensures { λ r. ⌜ Stride header r ⌝ }
 {
     row_size(header.version)
 }
 
 pub fn rows_start(header: Header) -> usize
-    ensures { λ r. ⌜ (r ≡ rowsStart header) × (r < 2100) ⌝ }
+    ensures { λ r. ⌜ RowsStart header r ⌝ }
 {
     head_size(header.version) + index8(header.words) * word_size(header.version)
 }
 
 pub fn schedule_start(header: Header) -> usize
-    ensures { λ r. ⌜ (r ≡ scheduleStart header) × (r < 788600) ⌝ }
+    ensures { λ r. ⌜ ScheduleStart header r ⌝ }
 {
     rows_start(header) + index16(header.rows) * stride_of(header)
 }

@@ -1,14 +1,17 @@
--- `header_or_zeros` meets its contract: a file that has a header is not too short for one.
-use native.Mathlib.Omega.{arith}
+-- `header_or_zeros` meets its contract: the definition's test is the code's.
 use borrow.Author.Needs.{needs}
+use borrow.Author.Tests.{lt-ltb, le-ltb}
+use Rattle.runfile.specs.Promises.{headerOrZeros}
 use Rattle.runfile.proofs.read.header_or_zeros.Statement.{statement}
 use Rattle.runfile.proofs.read.header_or_zeros.Tie as tie
 
 returns : tie.Need-returns
-returns c = λ long. absurd (let short = c .if1 .taken in omega arith)
+unfolding headerOrZeros
+returns c = rw (lt-ltb _ _ (c .if1 .taken))
 
 returns-2 : tie.Need-returns-2
-returns-2 c = λ long. c .header-of .ensures
+unfolding headerOrZeros
+returns-2 c = rw (le-ltb _ _ (c .before .if1 .left)) (c .header-of .ensures)
 
 pub header-or-zeros-spec : {M : Type 1} → statement M
 header-or-zeros-spec =
