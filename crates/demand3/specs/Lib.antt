@@ -17,6 +17,7 @@ pub mod Positions
 pub mod Reads
 pub mod Demand
 pub mod File
+pub mod Absent
 pub mod Wrong
 pub mod Capture
 pub mod Announce
