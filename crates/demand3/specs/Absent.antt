@@ -36,7 +36,7 @@ module _ (f : List ℕ) (bytes : Bytes f) (h : Header) (room : Room) (l : Lawful
   unfolding wordsOf
   inside i = subst (λ n. w < n) (sym (length-wordsFrom (h .version) f (h .words))) i
 
-  -- "bits of absent processes never change"
+  -- the bits of processes that the file does not have (R17)
   pub absent-file : h .processes ≤ q → bit q (getD (endOf h f .words) w 0) ≡ bit q (getD (wordsOf h f) w 0)
   unfolding endOf
   absent-file a = absent-kept (tableOf h f) fitting (h .processes) (wordsOf h f) (scheduleIn h f) q w a
