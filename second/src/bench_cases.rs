@@ -6,16 +6,20 @@
 //! and its positions move".
 //!
 //! The cases are typed here and once more in the folder `bench`; both must
-//! come to the same.
+//! come to the same. Each is there once more as a file of version 2.
 
 use std::fs;
 use std::path::PathBuf;
 
 use crate::hex::hex;
+use crate::machine::{run, Buffers};
 use crate::run::print_run;
 
 /// A row of the table: process, kind, old, new.
 type CaseRow = (u8, u8, u16, u16);
+
+/// What a value of version 2 has more than that of the table.
+const MORE: u32 = 4_000_000_000;
 
 const P0_7_TO_8: CaseRow = (0, 1, 7, 8);
 
@@ -25,6 +29,9 @@ struct Case {
     /// The schedule as in the table: how many times, which byte.
     schedule: &'static [(usize, u8)],
     printed: &'static str,
+    /// What the same case prints as a file of version 2, with 4,000,000,000
+    /// more in every value.
+    printed_2: &'static str,
 }
 
 const CASES: [Case; 12] = [
@@ -33,36 +40,44 @@ const CASES: [Case; 12] = [
         rows: &[P0_7_TO_8],
         schedule: &[(9, 0x00)],
         printed: "run 1 1 1 9\nword 0 8 1\nlog 6 0 0 1 0\nanswer 8 0 0 1 0\n",
+        printed_2: "run 1 1 1 9\nword 0 4000000008 1\nlog 6 0 0 1 0\nanswer 8 0 0 1 0\n",
     },
     Case {
         name: 'b',
         rows: &[P0_7_TO_8, (1, 1, 7, 8)],
         schedule: &[(4, 0x00), (7, 0x01), (1, 0x10), (1, 0x20), (3, 0x00)],
         printed: "run 2 1 2 16\nword 0 8 2\nlog 10 1 1 1 0\nanswer 15 0 0 2 0\n",
+        printed_2: "run 2 1 2 16\nword 0 4000000008 2\nlog 10 1 1 1 0\nanswer 15 0 0 2 0\n",
     },
     Case {
         name: 'c',
         rows: &[P0_7_TO_8],
         schedule: &[(6, 0x00), (1, 0x10), (1, 0x20), (4, 0x00)],
         printed: "run 1 1 1 12\nword 0 7 0\nanswer 11 0 0 2 0\n",
+        printed_2: "run 1 1 1 12\nword 0 4000000007 0\nanswer 11 0 0 2 0\n",
     },
     Case {
         name: 'd',
         rows: &[P0_7_TO_8],
         schedule: &[(7, 0x00), (1, 0x10), (1, 0x20), (5, 0x00)],
         printed: "run 1 1 1 14\nword 0 8 1\nlog 6 0 0 1 0\nanswer 13 0 0 1 0\n",
+        printed_2: "run 1 1 1 14\nword 0 4000000008 1\nlog 6 0 0 1 0\nanswer 13 0 0 1 0\n",
     },
     Case {
         name: 'e',
         rows: &[P0_7_TO_8, (1, 1, 8, 9)],
         schedule: &[(7, 0x00), (7, 0x01), (1, 0x10), (1, 0x20), (5, 0x00)],
         printed: "run 2 1 2 21\nword 0 9 3\nlog 6 0 0 1 0\nlog 13 1 1 1 0\nanswer 20 0 0 1 0\n",
+        printed_2:
+            "run 2 1 2 21\nword 0 4000000009 3\nlog 6 0 0 1 0\nlog 13 1 1 1 0\nanswer 20 0 0 1 0\n",
     },
     Case {
         name: 'f',
         rows: &[P0_7_TO_8, (1, 1, 7, 9)],
         schedule: &[(4, 0x00), (7, 0x01), (5, 0x00)],
         printed: "run 2 1 2 16\nword 0 9 2\nlog 10 1 1 1 0\nlog 10 0 0 0 0\nanswer 15 0 0 0 0\n",
+        printed_2:
+            "run 2 1 2 16\nword 0 4000000009 2\nlog 10 1 1 1 0\nlog 10 0 0 0 0\nanswer 15 0 0 0 0\n",
     },
     Case {
         name: 'g',
@@ -76,24 +91,29 @@ const CASES: [Case; 12] = [
             (4, 0x00),
         ],
         printed: "run 2 1 2 20\nword 0 9 2\nlog 10 1 1 1 0\nanswer 19 0 0 2 0\n",
+        printed_2: "run 2 1 2 20\nword 0 4000000009 2\nlog 10 1 1 1 0\nanswer 19 0 0 2 0\n",
     },
     Case {
         name: 'h',
         rows: &[(0, 0, 0, 0)],
         schedule: &[(6, 0x00)],
         printed: "run 1 1 1 6\nword 0 7 0\nlog 3 0 0 3 7\nanswer 5 0 0 3 7\n",
+        printed_2:
+            "run 1 1 1 6\nword 0 4000000007 0\nlog 3 0 0 3 4000000007\nanswer 5 0 0 3 4000000007\n",
     },
     Case {
         name: 'i',
         rows: &[(0, 1, 5, 6)],
         schedule: &[(6, 0x00)],
         printed: "run 1 1 1 6\nword 0 7 0\nlog 3 0 0 0 0\nanswer 5 0 0 0 0\n",
+        printed_2: "run 1 1 1 6\nword 0 4000000007 0\nlog 3 0 0 0 0\nanswer 5 0 0 0 0\n",
     },
     Case {
         name: 'j',
         rows: &[P0_7_TO_8],
         schedule: &[(1, 0xF0), (1, 0x00), (1, 0x20), (3, 0x00)],
         printed: "run 1 1 1 6\nword 0 7 0\n",
+        printed_2: "run 1 1 1 6\nword 0 4000000007 0\n",
     },
     Case {
         name: 'k',
@@ -108,31 +128,58 @@ const CASES: [Case; 12] = [
             (2, 0x00),
         ],
         printed: "run 1 1 1 17\nword 0 8 1\nlog 6 0 0 1 0\nanswer 16 0 0 1 0\n",
+        printed_2: "run 1 1 1 17\nword 0 4000000008 1\nlog 6 0 0 1 0\nanswer 16 0 0 1 0\n",
     },
     Case {
         name: 'l',
         rows: &[(0, 1, 7, 7)],
         schedule: &[],
         printed: "refused 11 15\n",
+        printed_2: "refused 11 19\n",
     },
 ];
 
 impl Case {
-    fn file(&self) -> Vec<u8> {
+    fn header(&self, version: u8) -> Vec<u8> {
         let processes = self.rows.last().map_or(0, |row| row.0 + 1);
         let rows = self.rows.len() as u8;
         let length: usize = self.schedule.iter().map(|(times, _)| times).sum();
-        let mut file = b"SWR\x01\x00".to_vec();
-        file.extend([processes, 1, rows, 0, length as u8, 0]);
+        let mut file = b"SWR".to_vec();
+        file.extend([version, 0, processes, 1, rows, 0, length as u8, 0]);
+        file
+    }
+
+    fn schedule(&self) -> Vec<u8> {
+        let bytes = self.schedule.iter();
+        bytes
+            .flat_map(|(times, byte)| vec![*byte; *times])
+            .collect()
+    }
+
+    fn file(&self) -> Vec<u8> {
+        let mut file = self.header(1);
         file.extend([7, 0, 0, 0]);
         for (process, kind, old, new) in self.rows {
             file.extend([*process, *kind, 0, 0]);
             file.extend(old.to_le_bytes());
             file.extend(new.to_le_bytes());
         }
-        for (times, byte) in self.schedule {
-            file.extend(vec![*byte; *times]);
+        file.extend(self.schedule());
+        file
+    }
+
+    /// The case as a file of version 2. A read still has no old and no new.
+    fn file_2(&self) -> Vec<u8> {
+        let mut file = self.header(2);
+        file.extend(u64::from(MORE + 7).to_le_bytes());
+        for (process, kind, old, new) in self.rows {
+            file.extend([*process, *kind, 0, 0]);
+            for value in [*old, *new] {
+                let more = if *kind == 1 { MORE } else { 0 };
+                file.extend((more + u32::from(value)).to_le_bytes());
+            }
         }
+        file.extend(self.schedule());
         file
     }
 }
@@ -147,6 +194,46 @@ fn printed(file: &[u8]) -> String {
 fn the_twelve_bench_cases_print_their_whole_outcomes() {
     for case in &CASES {
         assert_eq!(printed(&case.file()), case.printed, "case {}", case.name);
+    }
+}
+
+#[test]
+fn the_twelve_bench_cases_print_their_whole_outcomes_in_version_2() {
+    for case in &CASES {
+        let (name, file) = (case.name, case.file_2());
+        assert_eq!(printed(&file), case.printed_2, "case {name}2");
+    }
+}
+
+/// "in the bench cases' final words the flip bits move to bit 32 up" (change
+/// request 5): the table's word 65,544, that is 8 and bit 16, and so on.
+#[test]
+fn the_final_words_of_the_table_in_64_bits() {
+    let words = [
+        (0, 65_544),
+        (1, 131_080),
+        (2, 7),
+        (3, 65_544),
+        (4, 196_617),
+        (5, 131_081),
+        (6, 131_081),
+        (7, 7),
+        (8, 7),
+        (9, 7),
+        (10, 65_544),
+    ];
+    for (case, word) in words {
+        let (value, flips) = (word % 65_536, word / 65_536);
+        let wide = flips * 4_294_967_296 + value;
+        for (file, more) in [(CASES[case].file(), 0), (CASES[case].file_2(), MORE)] {
+            let mut buffers = Buffers {
+                words: vec![0],
+                log: vec![0; 200],
+                answers: vec![0; 200],
+            };
+            assert!(run(&file, &mut buffers).is_ok());
+            assert_eq!(buffers.words, [wide + u64::from(more)]);
+        }
     }
 }
 
@@ -211,11 +298,50 @@ fn one_slip_in_each_field_of_a_row() {
     }
 }
 
+/// The same as a file of version 2, with 4,000,000,000 more in every value;
+/// the rows begin at 27, 39, 51 and 63.
+const FOUR_ROWS_2: [u8; 84] = [
+    0x53, 0x57, 0x52, 2, 0, 2, 2, 4, 0, 9, 0, // header
+    0x07, 0x28, 0x6B, 0xEE, 0, 0, 0, 0, // word 0
+    0x09, 0x28, 0x6B, 0xEE, 0, 0, 0, 0, // word 1
+    0, 1, 0, 0, 0x07, 0x28, 0x6B, 0xEE, 0x08, 0x28, 0x6B, 0xEE, // p0, word 0
+    0, 0, 1, 0, 0, 0, 0, 0, 0, 0, 0, 0, // p0 reads word 1
+    1, 1, 1, 0, 0x09, 0x28, 0x6B, 0xEE, 0x07, 0x28, 0x6B, 0xEE, // p1, word 1
+    1, 0, 0, 0, 0, 0, 0, 0, 0, 0, 0, 0, // p1 reads word 0
+    0, 0, 0, 0, 0, 0, 0, 0, 0, // schedule
+];
+
+/// The six files `field2-1` to `field2-6`.
+const SLIPS_2: [(usize, u8, usize); 6] = [
+    (51, 2, 51),
+    (52, 2, 52),
+    (53, 2, 53),
+    (54, 1, 54),
+    (45, 1, 43),
+    (74, 1, 71),
+];
+
+#[test]
+fn one_slip_in_each_field_of_a_row_of_version_2() {
+    assert!(printed(&FOUR_ROWS_2).starts_with("run 2 2 4 9\nword 0 4000000008 1\n"));
+    for (number, (at, byte, place)) in (1..).zip(SLIPS_2) {
+        let mut file = FOUR_ROWS_2;
+        file[at] = byte;
+        let refused = format!("refused 9 {place}\n");
+        assert_eq!(printed(&file), refused, "field2-{number}");
+        assert_eq!(bytes_in_bench(&format!("field2-{number}.hex")), hex(&file));
+        assert_eq!(in_bench(&format!("field2-{number}.out")), refused);
+    }
+}
+
 #[test]
 fn the_cases_in_the_folder_bench_are_these() {
     for case in &CASES {
         let name = case.name;
         assert_eq!(bytes_in_bench(&format!("{name}.hex")), hex(&case.file()));
         assert_eq!(in_bench(&format!("{name}.out")), case.printed);
+        let typed = bytes_in_bench(&format!("{name}2.hex"));
+        assert_eq!(typed, hex(&case.file_2()));
+        assert_eq!(in_bench(&format!("{name}2.out")), case.printed_2);
     }
 }

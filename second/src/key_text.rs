@@ -196,6 +196,7 @@ impl Typist {
 mod tests {
     use super::*;
     use crate::generate::{records, Flavour};
+    use crate::machine::Version;
     use crate::panel::{read_line, Line};
 
     fn lines(text: &[u8]) -> Vec<Line> {
@@ -212,18 +213,23 @@ mod tests {
 
     #[test]
     fn the_schedule_is_there_in_its_order_among_the_litter() {
-        for record in records(3, 4, Flavour::FewLost) {
-            let text = key_text(&record.file, 5);
-            let mut keys = keys(&text).into_iter();
-            for byte in schedule(&record.file).unwrap() {
-                assert!(keys.any(|key| key == *byte));
+        for version in [Version::One, Version::Two] {
+            for record in records(3, 4, Flavour::FewLost(version)) {
+                let text = key_text(&record.file, 5);
+                let mut keys = keys(&text).into_iter();
+                for byte in schedule(&record.file).unwrap() {
+                    assert!(keys.any(|key| key == *byte));
+                }
             }
         }
     }
 
     #[test]
     fn every_sort_of_litter_is_met() {
-        let file = records(3, 1, Flavour::FewLost).next().unwrap().file;
+        let file = records(3, 1, Flavour::FewLost(Version::One))
+            .next()
+            .unwrap()
+            .file;
         let processes = RunFile::read(&file).unwrap().processes as u8;
         assert!(processes < 16);
         let text = (0..5).map(|seed| key_text(&file, seed)).collect::<Vec<_>>();
@@ -242,7 +248,10 @@ mod tests {
 
     #[test]
     fn a_seed_gives_the_same_text_again() {
-        let file = records(3, 1, Flavour::ManyLost).next().unwrap().file;
+        let file = records(3, 1, Flavour::ManyLost(Version::Two))
+            .next()
+            .unwrap()
+            .file;
         assert_eq!(key_text(&file, 8), key_text(&file, 8));
         assert_ne!(key_text(&file, 8), key_text(&file, 9));
     }

@@ -41,8 +41,9 @@ fn write_run(out: &mut impl Write, ran: &Ran, buffers: &Buffers) -> io::Result<(
     write_rows(out, "answer", &buffers.answers, ran.answer_rows)
 }
 
-pub fn write_word(out: &mut impl Write, number: usize, word: u32) -> io::Result<()> {
-    writeln!(out, "word {number} {} {}", word & 0xFFFF, word >> 16)
+/// The value is the word's low 32 bits, and the flip bits are all the others.
+pub fn write_word(out: &mut impl Write, number: usize, word: u64) -> io::Result<()> {
+    writeln!(out, "word {number} {} {}", word & 0xFFFF_FFFF, word >> 32)
 }
 
 fn write_rows(out: &mut impl Write, name: &str, buffer: &[u32], rows: usize) -> io::Result<()> {

@@ -40,7 +40,7 @@ use generate::Flavour;
 
 const USAGE: &str = "usage:
   second run < FILE
-  second generate SEED COUNT [any|short|few|many|quiet|reads] > STREAM
+  second generate SEED COUNT [any|short|few|many|quiet|reads|few2|many2|quiet2|reads2] > STREAM
   second unrun < STREAM > STREAM
   second sweep < STREAM > OUTCOMES
   second compare STREAM OUTCOMES_A OUTCOMES_B

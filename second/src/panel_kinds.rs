@@ -11,10 +11,12 @@ use crate::Ending;
 /// hex digits; each verdict, answer, bit and stage is a kind of its own. Where
 /// the line alone does not tell, [`Tally::labelled`] puts in a word: `start`
 /// for the words that the file starts from, `between` for a row of the log
-/// that has others behind it, `file` for the refusal of a file.
+/// that has others behind it, `wide` for a value over 65,535, which only a file
+/// of version 2 comes to, `file` for the refusal of a file.
 const KINDS: &[&str] = &[
     "run P W R S",
     "start word K VALUE FLIPS",
+    "start wide word K VALUE FLIPS",
     "not a key",
     "key T BB step Q",
     "key T BB crash Q",
@@ -43,12 +45,14 @@ const KINDS: &[&str] = &[
     "process Q stored false",
     "process Q stored true",
     "process Q stored value V",
+    "wide process Q stored value V",
     "process Q checkpoint 0",
     "process Q checkpoint 1",
     "process Q kept 0",
     "process Q kept 1",
     "process Q begun N",
     "word K VALUE FLIPS",
+    "wide word K VALUE FLIPS",
     "log POSITION PROCESS ROW 0 0 at PLACE",
     "log POSITION PROCESS ROW 1 0 at PLACE",
     "log POSITION PROCESS ROW 3 VALUE at PLACE",
@@ -58,6 +62,7 @@ const KINDS: &[&str] = &[
     "answer POSITION PROCESS ROW 1 0",
     "answer POSITION PROCESS ROW 2 0",
     "answer POSITION PROCESS ROW 3 VALUE",
+    "wide answer POSITION PROCESS ROW 3 VALUE",
     "nothing",
     "file refused N PLACE",
     "refused 21 0",
@@ -120,8 +125,10 @@ impl Tally {
     }
 
     fn labelled(&self, line: &str) -> String {
+        let wide = if has_wide_value(line) { "wide " } else { "" };
         match line.split_once(' ') {
-            Some(("word", _)) if self.in_header => format!("start {line}"),
+            Some(("word", _)) if self.in_header => format!("start {wide}{line}"),
+            Some(("word" | "process" | "answer", _)) => format!("{wide}{line}"),
             Some(("refused", _)) if !self.behind_a_key => format!("file {line}"),
             Some(("log", row)) if self.has_others_behind(row) => format!("log between {row}"),
             _ => line.to_string(),
@@ -153,6 +160,19 @@ impl Tally {
     fn times(&self, kind: &str) -> u64 {
         self.met.get(kind).copied().unwrap_or(0)
     }
+}
+
+/// Of a line with a value in it, the word's or the one that is stored or
+/// answered: it is over 65,535.
+fn has_wide_value(line: &str) -> bool {
+    let words: Vec<&str> = line.split(' ').collect();
+    let value = match words[..] {
+        ["word", _, value, _]
+        | ["process", _, "stored", "value", value]
+        | ["answer", _, _, _, "3", value] => value.parse().ok(),
+        _ => None,
+    };
+    value.is_some_and(|value: u64| value > 65_535)
 }
 
 fn is_of_kind(line: &str, kind: &str) -> bool {
@@ -214,6 +234,32 @@ mod tests {
         assert!(told(text)
             .1
             .contains("1 keys\nrefused by 9: 1\nrefused by 22: 1\n"));
+    }
+
+    #[test]
+    fn a_value_over_65535_is_another_kind() {
+        let text = "run 1 1 1 0\nword 0 65535 0\nkey 0 00 step 0\nword 0 65536 1\n\
+                    process 0 stored value 65535\nanswer 9 0 0 3 4294967295\n";
+        let expected = [
+            "run P W R S",
+            "start word K VALUE FLIPS",
+            "key T BB step Q",
+            "process Q stored value V",
+            "wide word K VALUE FLIPS",
+            "wide answer POSITION PROCESS ROW 3 VALUE",
+        ];
+        assert_eq!(met_once(text), expected);
+        let text = "run 1 1 1 0\nword 0 65536 0\nkey 0 00 step 0\nword 0 7 65536\n\
+                    process 0 stored value 65536\nanswer 9 0 0 3 65535\n";
+        let expected = [
+            "run P W R S",
+            "start wide word K VALUE FLIPS",
+            "key T BB step Q",
+            "wide process Q stored value V",
+            "word K VALUE FLIPS",
+            "answer POSITION PROCESS ROW 3 VALUE",
+        ];
+        assert_eq!(met_once(text), expected);
     }
 
     /// Also over two files: the second begins with an empty log.

@@ -37,7 +37,7 @@ pub fn check_counts(given: &Given, ran: &Ran) -> Result<(), Violation> {
     Ok(())
 }
 
-/// (a) Replay: carried out in the log's order on plain 16-bit words, every
+/// (a) Replay: carried out in the log's order on plain 32-bit words, every
 /// operation gives the answer in the log, and the words end as told.
 pub fn check_replay(given: &Given, ran: &Ran) -> Result<(), Violation> {
     let mut values: Vec<u64> = given.words.iter().map(|word| word.value).collect();

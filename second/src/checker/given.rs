@@ -4,10 +4,21 @@ use super::Violation;
 
 /// The file of a run that took place; so it must be one that can be read.
 pub struct Given {
+    pub layout: Layout,
     pub processes: u64,
     pub words: Vec<StartWord>,
     pub rows: Vec<GivenRow>,
     pub schedule: Vec<u8>,
+}
+
+/// Where things stand in a file of a version.
+#[derive(Clone, Copy, Debug, PartialEq, Eq)]
+pub struct Layout {
+    /// 1 or 2.
+    pub version: usize,
+    /// All that the version decides: the bytes of a value, and of the flip
+    /// bits beside it.
+    value_bytes: usize,
 }
 
 pub struct StartWord {
@@ -29,23 +40,21 @@ impl Given {
     }
 
     fn from_offsets(file: &[u8]) -> Option<Given> {
-        let word_count = number(file, 6, 1)?;
-        let row_count = number(file, 7, 2)?;
+        let layout = Layout::of(file)?;
         let schedule_length = number(file, 9, 2)?;
-        let rows_begin = 11 + 4 * word_count as usize;
-        let schedule_begins = rows_begin + 8 * row_count as usize;
+        let rows: Vec<usize> = layout.rows(file)?.collect();
+        let schedule_begins = layout.rows_begin(file)? + layout.row_bytes() * rows.len();
         let schedule = file.get(schedule_begins..)?;
         if schedule.len() as u64 != schedule_length {
             return None;
         }
-        let words = (11..rows_begin).step_by(4);
-        let rows = (rows_begin..schedule_begins).step_by(8);
+        let words = layout.words(file)?.map(|at| layout.start_word(file, at));
+        let rows = rows.into_iter().map(|at| layout.given_row(file, at));
         Some(Given {
+            layout,
             processes: number(file, 5, 1)?,
-            words: words
-                .map(|at| start_word(file, at))
-                .collect::<Option<_>>()?,
-            rows: rows.map(|at| given_row(file, at)).collect::<Option<_>>()?,
+            words: words.collect::<Option<_>>()?,
+            rows: rows.collect::<Option<_>>()?,
             schedule: schedule.to_vec(),
         })
     }
@@ -60,6 +69,83 @@ impl Given {
     }
 }
 
+/// The fields of a row in file order.
+pub const FIELDS: [&str; 6] = ["process", "kind", "word", "zero byte", "old", "new"];
+
+impl Layout {
+    /// None for a file of no version.
+    pub fn of(file: &[u8]) -> Option<Layout> {
+        let (version, value_bytes) = match number(file, 3, 2)? {
+            1 => (1, 2),
+            2 => (2, 4),
+            _ => return None,
+        };
+        Some(Layout {
+            version,
+            value_bytes,
+        })
+    }
+
+    fn word_bytes(self) -> usize {
+        2 * self.value_bytes
+    }
+
+    fn row_bytes(self) -> usize {
+        4 + 2 * self.value_bytes
+    }
+
+    /// Offset and bytes of each of the [`FIELDS`].
+    pub fn fields(self) -> [(usize, usize); 6] {
+        let value = self.value_bytes;
+        [
+            (0, 1),
+            (1, 1),
+            (2, 1),
+            (3, 1),
+            (4, value),
+            (4 + value, value),
+        ]
+    }
+
+    /// Where each word begins.
+    fn words(self, file: &[u8]) -> Option<impl Iterator<Item = usize>> {
+        Some((11..self.rows_begin(file)?).step_by(self.word_bytes()))
+    }
+
+    fn rows_begin(self, file: &[u8]) -> Option<usize> {
+        Some(11 + self.word_bytes() * number(file, 6, 1)? as usize)
+    }
+
+    /// Where each row begins, whether the file is that long or not.
+    pub fn rows(self, file: &[u8]) -> Option<impl Iterator<Item = usize>> {
+        let count = number(file, 7, 2)? as usize;
+        Some(
+            (self.rows_begin(file)?..)
+                .step_by(self.row_bytes())
+                .take(count),
+        )
+    }
+
+    fn start_word(self, file: &[u8], at: usize) -> Option<StartWord> {
+        Some(StartWord {
+            value: number(file, at, self.value_bytes)?,
+            flips: number(file, at + self.value_bytes, self.value_bytes)?,
+        })
+    }
+
+    fn given_row(self, file: &[u8], row: usize) -> Option<GivenRow> {
+        let field = |(offset, bytes): (usize, usize)| number(file, row + offset, bytes);
+        let [process, kind, word, _, old, new] = self.fields();
+        Some(GivenRow {
+            process: field(process)?,
+            compares: field(kind)? == 1,
+            word: field(word)? as usize,
+            old: field(old)?,
+            new: field(new)?,
+        })
+    }
+}
+
 /// The little-endian number of so many bytes at that offset.
 pub fn number(file: &[u8], at: usize, bytes: usize) -> Option<u64> {
     let part = file.get(at..at.checked_add(bytes)?)?;
@@ -68,21 +154,4 @@ pub fn number(file: &[u8], at: usize, bytes: usize) -> Option<u64> {
             .rev()
             .fold(0, |sum, byte| sum * 256 + u64::from(*byte)),
     )
-}
-
-fn start_word(file: &[u8], at: usize) -> Option<StartWord> {
-    Some(StartWord {
-        value: number(file, at, 2)?,
-        flips: number(file, at + 2, 2)?,
-    })
-}
-
-fn given_row(file: &[u8], at: usize) -> Option<GivenRow> {
-    Some(GivenRow {
-        process: number(file, at, 1)?,
-        compares: number(file, at + 1, 1)? == 1,
-        word: number(file, at + 2, 1)? as usize,
-        old: number(file, at + 4, 2)?,
-        new: number(file, at + 6, 2)?,
-    })
 }

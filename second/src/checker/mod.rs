@@ -5,7 +5,8 @@
 //! outcome lines in its own way and knows nothing of stages, only that an
 //! operation begins with its third store. What it demands is what can be seen
 //! from outside: the file, the log, the answers and the final words. Of the
-//! refusals it judges the place of 9, so that it can count them by field.
+//! refusals it judges the place of 9, so that it can count them by field and
+//! version.
 
 mod demands;
 mod fields;
@@ -28,7 +29,7 @@ use crate::outcome_text::next_outcome;
 use crate::stream::Record;
 use crate::Ending;
 
-use given::Given;
+use given::{Given, Layout};
 use outcome::{Outcome, Ran, Told};
 use spans::Spans;
 use tally::Tally;
@@ -88,10 +89,11 @@ fn check_record(record: &Record, text: &[u8], tally: &mut Tally) -> Result<(), V
             if place > record.file.len() {
                 return Err(format!("the place {place} is not in the file"));
             }
-            if number == 9 {
-                tally.refused_field(fields::field_at(&record.file, place)?);
-            }
-            tally.refused(number)
+            let field = match number {
+                9 => Some(fields::field_at(&record.file, place)?),
+                _ => None,
+            };
+            tally.refused(number, field, Layout::of(&record.file))
         }
         Told::Ran(ran) => {
             let given = Given::read(&record.file)?;

@@ -138,7 +138,7 @@ fn numbers_of<const N: usize>(line: &str, name: &str) -> Option<[u64; N]> {
 }
 
 /// A number of the outcome: decimal digits without a needless 0 in front. It
-/// is a 32-bit number, so later arithmetic in 64 bits cannot overflow.
+/// is a 32-bit number, also the flip bits of a word, so later arithmetic in 64 bits cannot overflow.
 fn plain_number(digits: &str) -> Option<u64> {
     let number: u32 = digits.parse().ok()?;
     (number.to_string() == digits).then_some(u64::from(number))

@@ -1,7 +1,7 @@
 //! The `sum` line: everything in the lent buffers must be what the outcome
 //! lines tell, and what stood there before everywhere else.
 
-use super::outcome::{Five, Ran, Told};
+use super::outcome::{FinalWord, Five, Ran, Told};
 use super::Violation;
 use crate::stream::Lengths;
 
@@ -11,9 +11,13 @@ pub fn check(lent: &Lengths, told: &Told, sum: u64) -> Result<(), Violation> {
         Told::Ran(ran) => (word_numbers(ran), numbers(&ran.log), numbers(&ran.answers)),
     };
     let mut expected = 1;
-    add_buffer(&mut expected, &words, lent.words, 3_235_774_464)?;
-    add_buffer(&mut expected, &log, lent.log, 274_726_912)?;
-    add_buffer(&mut expected, &answers, lent.answers, 2_768_240_640)?;
+    add_buffer(&mut expected, &words, words_before(lent.words))?;
+    add_buffer(&mut expected, &log, (274_726_912..).take(lent.log))?;
+    add_buffer(
+        &mut expected,
+        &answers,
+        (2_768_240_640..).take(lent.answers),
+    )?;
     if sum == expected {
         Ok(())
     } else {
@@ -21,12 +25,19 @@ pub fn check(lent: &Lengths, told: &Told, sum: u64) -> Result<(), Violation> {
     }
 }
 
+/// A word is two numbers in the sum: its low 32 bits, which are the value, and
+/// then its high 32 bits, the flip bits.
 fn word_numbers(ran: &Ran) -> Vec<u64> {
-    let number = |value: u64, flips: u64| flips * 65_536 + value;
-    ran.words
-        .iter()
-        .map(|word| number(word.value, word.flips))
-        .collect()
+    let two_numbers = |word: &FinalWord| [word.value, word.flips];
+    ran.words.iter().flat_map(two_numbers).collect()
+}
+
+/// The words buffer before the run: its number i is 3,235,774,464 times 2 to
+/// the 32nd, and 3,235,774,464 and i more. So few words are lent that the low
+/// half never goes over.
+fn words_before(length: usize) -> impl Iterator<Item = u64> {
+    let low = (3_235_774_464..).take(length);
+    low.flat_map(|low| [low, 3_235_774_464])
 }
 
 fn numbers(fives: &[Five]) -> Vec<u64> {
@@ -38,14 +49,19 @@ fn numbers(fives: &[Five]) -> Vec<u64> {
 }
 
 /// Adds a lent buffer to the sum: what was written from the front, then what
-/// was there before the run.
-fn add_buffer(sum: &mut u64, written: &[u64], length: usize, fill: u64) -> Result<(), Violation> {
-    if written.len() > length {
-        return Err("more is told than the lent buffers hold".to_string());
+/// is left of what was there before the run.
+fn add_buffer(
+    sum: &mut u64,
+    written: &[u64],
+    mut before: impl Iterator<Item = u64>,
+) -> Result<(), Violation> {
+    let mut add = |number: u64| *sum = (*sum * 1_000_003 + number) % 4_294_967_291;
+    for number in written {
+        if before.next().is_none() {
+            return Err("more is told than the lent buffers hold".to_string());
+        }
+        add(*number);
     }
-    let untouched = (fill..).take(length).skip(written.len());
-    for number in written.iter().copied().chain(untouched) {
-        *sum = (*sum * 1_000_003 + number) % 4_294_967_291;
-    }
+    before.for_each(add);
     Ok(())
 }

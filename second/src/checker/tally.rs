@@ -1,25 +1,32 @@
 //! Counts of the kinds that a stream meets, so that a stream that never meets
 //! a kind is not taken for evidence about it.
 
-use super::demands::FAIL;
-use super::fields::FIELDS;
-use super::given::Given;
+use super::demands::{FAIL, VALUE_READ};
+use super::given::{Given, Layout, FIELDS};
 use super::outcome::{Five, Ran};
 use super::positions::lost_swaps;
 use super::spans::Spans;
 use super::Violation;
 
+/// Counts by version; number 0 is for refusals that come before it is known
+/// that there is one, 1 to 3.
+type ByVersion = [u64; 3];
+
 #[derive(Default)]
 pub struct Tally {
-    run: u64,
+    run: ByVersion,
     /// By refusal number; number 0 is not used.
-    refused: [u64; 16],
+    refused: [ByVersion; 16],
     /// Refusal 9, by field of the row.
-    refused_fields: [u64; FIELDS.len()],
+    refused_fields: [ByVersion; FIELDS.len()],
     /// By verdict.
     log: [u64; 4],
     answers: [u64; 4],
     lost_swaps: u64,
+    /// Values over 65,535 in the log.
+    wide_values: u64,
+    /// Final words with bits from 48 up.
+    words_with_bits_of_no_process: u64,
     /// Announcements cut off after one store, and after two.
     cut_off: [u64; 2],
     /// Rows that failed after they had been cut off so and begun again.
@@ -43,22 +50,34 @@ impl Kind {
 }
 
 impl Tally {
-    pub fn refused(&mut self, number: usize) -> Result<(), Violation> {
-        match self.refused.get_mut(number) {
-            Some(count) if number > 0 => {
-                *count += 1;
-                Ok(())
-            }
-            _ => Err(format!("there is no refusal {number}")),
+    /// A refusal, of which field if it is 9. 3 means "a version that is neither
+    /// 1 nor 2" (change request 5), so behind it there is one of the two.
+    pub fn refused(
+        &mut self,
+        number: usize,
+        field: Option<usize>,
+        layout: Option<Layout>,
+    ) -> Result<(), Violation> {
+        let version = match (number, layout) {
+            (1 | 2, _) | (3, None) => 0,
+            (4..=15, Some(layout)) => layout.version,
+            (3, Some(layout)) => return Err(format!("there is a version {}", layout.version)),
+            (4..=15, None) => return Err("the file is of no version".to_string()),
+            _ => return Err(format!("there is no refusal {number}")),
+        };
+        self.refused[number][version] += 1;
+        if let Some(field) = field {
+            self.refused_fields[field][version] += 1;
         }
-    }
-
-    pub fn refused_field(&mut self, field: usize) {
-        self.refused_fields[field] += 1;
+        Ok(())
     }
 
     pub fn ran(&mut self, given: &Given, ran: &Ran, spans: &Spans) {
-        self.run += 1;
+        self.run[given.layout.version] += 1;
+        let is_wide = |five: &&Five| five.verdict == VALUE_READ && five.value > 65_535;
+        self.wide_values += ran.log.iter().filter(is_wide).count() as u64;
+        let high = ran.words.iter().filter(|word| word.flips > 65_535);
+        self.words_with_bits_of_no_process += high.count() as u64;
         count_verdicts(&mut self.log, &ran.log);
         count_verdicts(&mut self.answers, &ran.answers);
         let lost = lost_swaps(given, ran);
@@ -89,15 +108,26 @@ impl Tally {
             count,
             wanted: false,
         };
-        let mut kinds = vec![counted("files run", self.run)];
-        for (number, count) in self.refused.iter().enumerate().skip(1) {
-            if number == 9 {
-                let fields = FIELDS.iter().zip(self.refused_fields);
-                kinds.extend(
-                    fields.map(|((name, ..), count)| wanted(format!("refused 9 {name}"), count)),
-                );
-            } else {
-                kinds.push(wanted(format!("refused {number}"), *count));
+        let mut kinds = Vec::new();
+        for version in 1..=2 {
+            let name = format!("files of version {version} run");
+            kinds.push(wanted(name, self.run[version]));
+        }
+        for (number, [of_none, ..]) in self.refused.iter().enumerate().take(4).skip(1) {
+            kinds.push(wanted(format!("refused {number}"), *of_none));
+        }
+        for version in 1..=2 {
+            for (number, counts) in self.refused.iter().enumerate().skip(4) {
+                let mut add = |name: String, counts: &ByVersion| {
+                    let name = format!("version {version} refused {name}");
+                    kinds.push(wanted(name, counts[version]));
+                };
+                if number == 9 {
+                    let fields = FIELDS.iter().zip(&self.refused_fields);
+                    fields.for_each(|(name, counts)| add(format!("9 {name}"), counts));
+                } else {
+                    add(number.to_string(), counts);
+                }
             }
         }
         let log =
@@ -108,6 +138,14 @@ impl Tally {
             answers.map(|(verdict, count)| wanted(format!("answer verdict {verdict}"), *count)),
         );
         kinds.push(wanted("lost swaps".to_string(), self.lost_swaps));
+        kinds.push(wanted(
+            "values read over 65,535".to_string(),
+            self.wide_values,
+        ));
+        kinds.push(wanted(
+            "final words with bits from 48 up".to_string(),
+            self.words_with_bits_of_no_process,
+        ));
         let [after_one, after_two] = self.cut_off;
         kinds.push(wanted(
             "starts cut off after 1 store".to_string(),

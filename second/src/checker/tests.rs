@@ -16,6 +16,22 @@ log 10 0 0 0 0
 answer 15 0 0 0 0
 ";
 
+/// The same as a file of version 2, with 4,000,000,000 more in every value and
+/// bits 47, 48 and 63 in the word.
+const F_2: &[u8] = &[
+    0x53, 0x57, 0x52, 2, 0, 2, 1, 2, 0, 16, 0, // header
+    0x07, 0x28, 0x6B, 0xEE, 0, 0x80, 0x01, 0x80, // word
+    0, 1, 0, 0, 0x07, 0x28, 0x6B, 0xEE, 0x08, 0x28, 0x6B, 0xEE, // p0
+    1, 1, 0, 0, 0x07, 0x28, 0x6B, 0xEE, 0x09, 0x28, 0x6B, 0xEE, // p1
+    0, 0, 0, 0, 1, 1, 1, 1, 1, 1, 1, 0, 0, 0, 0, 0,
+];
+const F_2_OUTCOME: &str = "run 2 1 2 16
+word 0 4000000009 2147581954
+log 10 1 1 1 0
+log 10 0 0 0 0
+answer 15 0 0 0 0
+";
+
 /// A file of two processes and one word at 7, with a read of it for each of
 /// these processes.
 fn reads(processes: &[u8], schedule: &[u8]) -> Vec<u8> {
@@ -74,6 +90,7 @@ fn objection(file: &[u8], lines: &str) -> String {
 #[test]
 fn true_outcomes_are_accepted() {
     assert_eq!(check_with_sum(F, F_OUTCOME), Ok(()));
+    assert_eq!(check_with_sum(F_2, F_2_OUTCOME), Ok(()));
     assert_eq!(check_with_sum(&two_reads(), TWO_READS_OUTCOME), Ok(()));
     assert_eq!(check_with_sum(b"", "refused 1 0\n"), Ok(()));
 }
@@ -91,6 +108,85 @@ fn a_wrong_sum_is_objected_to() {
     let check = |text: &str| check_record(&record, text.as_bytes(), &mut Tally::default());
     assert_eq!(check("refused 1 0\nsum 1\n"), Ok(()));
     assert!(check("refused 1 0\nsum 2\n").is_err());
+}
+
+/// c is 1, then 1,000,003 + 9, and 1,000,012 × 1,000,003 + 2 is 232 times the
+/// modulus and 3,582,588,526 over; what is behind the word is not lent.
+#[test]
+fn a_word_is_two_numbers_in_the_sum() {
+    let mut file = F.to_vec();
+    file[9] = 0;
+    file.truncate(31);
+    file[11..15].copy_from_slice(&[9, 0, 2, 0]);
+    let record = Record {
+        file,
+        lengths: Lengths {
+            words: 1,
+            log: 0,
+            answers: 0,
+        },
+    };
+    let check = |sum: &str| {
+        let text = format!("run 2 1 2 0\nword 0 9 2\nsum {sum}\n");
+        check_record(&record, text.as_bytes(), &mut Tally::default())
+    };
+    assert_eq!(check("3582588526"), Ok(()));
+    assert!(check("3582588527").is_err());
+}
+
+/// Each half of the words buffer's fill: 3,235,774,464 and i more, then
+/// 3,235,774,464.
+#[test]
+fn the_words_before_the_run_in_the_sum() {
+    let record = Record {
+        file: Vec::new(),
+        lengths: Lengths {
+            words: 2,
+            log: 0,
+            answers: 0,
+        },
+    };
+    let halves = [3_235_774_464, 3_235_774_464, 3_235_774_465, 3_235_774_464];
+    let sum = halves
+        .iter()
+        .fold(1u64, |c, x| (c * 1_000_003 + x) % 4_294_967_291);
+    let text = format!("refused 1 0\nsum {sum}\n");
+    let told = check_record(&record, text.as_bytes(), &mut Tally::default());
+    assert_eq!(told, Ok(()));
+}
+
+#[test]
+fn false_stories_about_case_f_of_version_2_are_objected_to() {
+    let falsified = |from: &str, to: &str| {
+        assert!(F_2_OUTCOME.contains(from));
+        objection(F_2, &F_2_OUTCOME.replace(from, to))
+    };
+    // The value cut to 16 bits, or the next one.
+    falsified("4000000009", "10249");
+    falsified("4000000009", "4000000008");
+    // Flip bits: from 48 up lost, bit 47 lost, not turned, turned at 16 up.
+    falsified("2147581954", "32770");
+    falsified("2147581954", "2147549186");
+    falsified("2147581954", "2147581952");
+    falsified("2147581954", "2147713024");
+    falsified("log 10 0 0 0 0", "log 10 0 0 3 4000000009");
+}
+
+/// 3 means "a version that is neither 1 nor 2".
+#[test]
+fn refusal_3_and_the_later_ones_fit_the_version() {
+    for file in [F, F_2] {
+        assert_eq!(
+            objection(file, "refused 3 0\n")[..19],
+            *"there is a version "
+        );
+        let mut other = file.to_vec();
+        other[4] = 1;
+        assert_eq!(check_with_sum(&other, "refused 3 0\n"), Ok(()));
+        let text = objection(&other, "refused 8 0\n");
+        assert_eq!(text, "the file is of no version");
+        objection(&other, F_OUTCOME);
+    }
 }
 
 #[test]
@@ -296,25 +392,49 @@ fn refusal_9_has_the_place_of_the_first_faulty_field() {
     assert_eq!(text, "no field of a row is faulty");
 }
 
+/// The rows of case f of version 2 begin at 19 and 31; the second is made
+/// faulty, its old and new in each byte.
 #[test]
-fn refusal_9_is_counted_by_field() {
-    let mut tally = Tally::default();
-    let mut file = F.to_vec();
-    file[26] = 1;
-    let record = Record {
-        file,
-        lengths: Lengths {
-            words: 0,
-            log: 0,
-            answers: 0,
-        },
-    };
-    assert_eq!(
-        check_record(&record, b"refused 9 26\nsum 1\n", &mut tally),
-        Ok(())
-    );
-    for kind in tally.kinds() {
-        assert_eq!(kind.count, u64::from(kind.name == "refused 9 zero byte"));
+fn refusal_9_has_its_place_in_version_2_too() {
+    let mut places = vec![(31, 2, 31), (32, 2, 32), (33, 1, 33), (34, 1, 34)];
+    places.extend((35..39).map(|at| (at, 1, 35)));
+    places.extend((39..43).map(|at| (at, 1, 39)));
+    for (changed, byte, truth) in places {
+        let mut file = F_2.to_vec();
+        if changed >= 35 {
+            file[32..43].fill(0);
+        }
+        file[changed] = byte;
+        for place in 0..F_2.len() {
+            let told = check_with_sum(&file, &format!("refused 9 {place}\n"));
+            assert_eq!(told.is_ok(), place == truth);
+        }
+    }
+}
+
+#[test]
+fn refusal_9_is_counted_by_field_and_version() {
+    for (file, place, name) in [
+        (F, 26, "version 1 refused 9 zero byte"),
+        (F_2, 34, "version 2 refused 9 zero byte"),
+    ] {
+        let mut tally = Tally::default();
+        let mut file = file.to_vec();
+        file[place] = 1;
+        let record = Record {
+            file,
+            lengths: Lengths {
+                words: 0,
+                log: 0,
+                answers: 0,
+            },
+        };
+        let text = format!("refused 9 {place}\nsum 1\n");
+        let told = check_record(&record, text.as_bytes(), &mut tally);
+        assert_eq!(told, Ok(()));
+        for kind in tally.kinds() {
+            assert_eq!(kind.count, u64::from(kind.name == name));
+        }
     }
 }
 
@@ -324,11 +444,18 @@ fn kinds_never_met_fail_the_check() {
     let ending = check(&mut [].as_slice(), &mut [].as_slice(), &mut out).unwrap();
     assert!(ending == Ending::Objection);
     let text = String::from_utf8(out).unwrap();
-    for number in (1..=15).filter(|number| *number != 9) {
+    for number in 1..=3 {
         assert!(text.contains(&format!("never met: refused {number}\n")));
     }
-    for field in ["process", "kind", "word", "zero byte", "old", "new"] {
-        assert!(text.contains(&format!("never met: refused 9 {field}\n")));
+    for version in 1..=2 {
+        assert!(text.contains(&format!("never met: files of version {version} run\n")));
+        let refused = format!("never met: version {version} refused");
+        for number in (4..=15).filter(|number| *number != 9) {
+            assert!(text.contains(&format!("{refused} {number}\n")));
+        }
+        for field in ["process", "kind", "word", "zero byte", "old", "new"] {
+            assert!(text.contains(&format!("{refused} 9 {field}\n")));
+        }
     }
     assert_eq!(text.matches("never met: log verdict").count(), 3);
     assert_eq!(text.matches("never met: answer verdict").count(), 4);
@@ -336,5 +463,7 @@ fn kinds_never_met_fail_the_check() {
     assert!(text.contains("never met: starts cut off after 1 store\n"));
     assert!(text.contains("never met: starts cut off after 2 stores\n"));
     assert!(text.contains("never met: rows begun again that failed\n"));
-    assert!(!text.contains("never met: files run"));
+    assert!(text.contains("never met: values read over 65,535\n"));
+    assert!(text.contains("never met: final words with bits from 48 up\n"));
+    assert!(!text.contains("never met: crashes"));
 }

@@ -3,6 +3,7 @@
 
 use super::draft::{Draft, DraftRow};
 use super::random::Random;
+use crate::machine::Version;
 
 /// The refusals that the file alone can bring about.
 const REFUSALS_OF_THE_FILE: usize = 12;
@@ -49,7 +50,7 @@ fn roomy(mut draft: Draft, random: &mut Random) -> Draft {
     if draft.schedule.is_empty() {
         draft.schedule.push(random.byte_between(0, 1));
     }
-    Draft::honest(draft.processes, draft.words, draft.rows, draft.schedule)
+    draft.made_honest()
 }
 
 fn inflict(number: usize, draft: &mut Draft, random: &mut Random) {
@@ -71,8 +72,8 @@ fn inflict(number: usize, draft: &mut Draft, random: &mut Random) {
 
 fn wrong_version(random: &mut Random) -> u16 {
     let any = random.u16();
-    match random.one_of([0, 2, 0x0100, 0x0101, 0xFFFF, any]) {
-        1 => 0,
+    match random.one_of([0, 3, 4, 0x0100, 0x0101, 0x0102, 0x0200, 0x0201, 0xFFFF, any]) {
+        1 | 2 => 0,
         version => version,
     }
 }
@@ -104,10 +105,10 @@ fn wrong_schedule_length(draft: &mut Draft, random: &mut Random) {
 }
 
 /// A file longer or shorter than its header gives, or a header that gives
-/// one too many or too few.
+/// one too many or too few, or the other version.
 fn wrong_length(draft: &mut Draft, random: &mut Random) {
     let whole = draft.bytes().len();
-    match random.below(6) {
+    match random.below(7) {
         0 => draft.tail.push(random.byte()),
         1 => {
             let extra = random.between(1, 300);
@@ -116,6 +117,7 @@ fn wrong_length(draft: &mut Draft, random: &mut Random) {
         2 => draft.cut = Some(whole.saturating_sub(1)),
         3 => draft.cut = Some(random.below(whole)),
         4 => draft.row_count ^= 1,
+        5 => draft.version ^= 3,
         _ => draft.schedule_length ^= 1,
     }
 }
@@ -123,7 +125,7 @@ fn wrong_length(draft: &mut Draft, random: &mut Random) {
 /// Refusal 9 in any of the six fields, at any row, and now and then in
 /// another field of the same row, before or behind it.
 fn wrong_field(draft: &mut Draft, random: &mut Random) {
-    let (processes, words) = (draft.processes, draft.word_count);
+    let (processes, words, layout) = (draft.processes, draft.word_count, draft.layout);
     let Some(row) = any_row(draft, random) else {
         return;
     };
@@ -134,8 +136,8 @@ fn wrong_field(draft: &mut Draft, random: &mut Random) {
             1 => row.kind = at_least(2, random),
             2 => row.word = at_least(words, random),
             3 => row.zero = at_least(1, random),
-            4 => (row.kind, row.old) = (0, not_zero(random)),
-            _ => (row.kind, row.old, row.new) = (0, 0, not_zero(random)),
+            4 => (row.kind, row.old) = (0, not_zero(layout, random)),
+            _ => (row.kind, row.old, row.new) = (0, 0, not_zero(layout, random)),
         }
         if random.percent(75) {
             break;
@@ -149,10 +151,14 @@ fn at_least(least: u8, random: &mut Random) -> u8 {
     random.one_of([least, any])
 }
 
-/// Also with one byte 0, the low one or the high one.
-fn not_zero(random: &mut Random) -> u16 {
-    let any = random.u16();
-    random.one_of([1, 0x0100, 0xFF00, any | 1])
+/// Mostly with all bytes 0 but one, whichever that is.
+fn not_zero(layout: Version, random: &mut Random) -> u32 {
+    let (bytes, any) = match layout {
+        Version::One => (2, random.u16().into()),
+        Version::Two => (4, random.u32()),
+    };
+    let at = 8 * random.below(bytes);
+    random.one_of([1 << at, 1 << at, 0xFF << at, any | 1 << at])
 }
 
 /// A row whose process is below that of the row before.

@@ -12,6 +12,7 @@ mod valid;
 
 use std::io::{self, BufWriter, Write};
 
+use crate::machine::Version;
 use crate::stream::{Record, LONGEST_FILE};
 use crate::Ending;
 
@@ -23,17 +24,18 @@ use valid::{fullest_draft, long_draft, quiet_draft, reading_draft, short_draft, 
 /// What sort of files a stream has.
 #[derive(Clone, Copy)]
 pub enum Flavour {
-    /// Valid files and damaged ones, of every size.
+    /// Valid files and damaged ones, of every size and of both versions.
     Any,
     /// The same, of short files only.
     Short,
-    /// Valid files with the longest schedule, and few or many lost swaps.
-    FewLost,
-    ManyLost,
+    /// Valid files of one version with the longest schedule, and few or many
+    /// lost swaps.
+    FewLost(Version),
+    ManyLost(Version),
     /// Valid files with the longest schedule that answer nothing.
-    Quiet,
+    Quiet(Version),
     /// Valid files with the longest schedule, all of reads: a long log.
-    Reads,
+    Reads(Version),
 }
 
 impl Flavour {
@@ -41,10 +43,14 @@ impl Flavour {
         match name {
             "any" => Some(Flavour::Any),
             "short" => Some(Flavour::Short),
-            "few" => Some(Flavour::FewLost),
-            "many" => Some(Flavour::ManyLost),
-            "quiet" => Some(Flavour::Quiet),
-            "reads" => Some(Flavour::Reads),
+            "few" => Some(Flavour::FewLost(Version::One)),
+            "few2" => Some(Flavour::FewLost(Version::Two)),
+            "many" => Some(Flavour::ManyLost(Version::One)),
+            "many2" => Some(Flavour::ManyLost(Version::Two)),
+            "quiet" => Some(Flavour::Quiet(Version::One)),
+            "quiet2" => Some(Flavour::Quiet(Version::Two)),
+            "reads" => Some(Flavour::Reads(Version::One)),
+            "reads2" => Some(Flavour::Reads(Version::Two)),
             _ => None,
         }
     }
@@ -54,12 +60,13 @@ impl Flavour {
             Flavour::Any => any_record(random),
             Flavour::Short => {
                 let kind = any_kind(random);
-                record_of(kind, short_draft(random), random)
+                let version = any_version(random);
+                record_of(kind, short_draft(version, random), random)
             }
-            Flavour::FewLost => exact_record(long_draft(Mood::Calm, random)),
-            Flavour::ManyLost => exact_record(long_draft(Mood::Racing, random)),
-            Flavour::Quiet => exact_record(quiet_draft(random)),
-            Flavour::Reads => exact_record(reading_draft(random)),
+            Flavour::FewLost(version) => exact_record(long_draft(version, Mood::Calm, random)),
+            Flavour::ManyLost(version) => exact_record(long_draft(version, Mood::Racing, random)),
+            Flavour::Quiet(version) => exact_record(quiet_draft(version, random)),
+            Flavour::Reads(version) => exact_record(reading_draft(version, random)),
         }
     }
 }
@@ -100,6 +107,10 @@ fn any_kind(random: &mut Random) -> Kind {
     ])
 }
 
+fn any_version(random: &mut Random) -> Version {
+    random.one_of([Version::One, Version::Two])
+}
+
 /// A valid file with buffers of just the lengths that it needs.
 fn exact_record(draft: Draft) -> Record {
     Record {
@@ -110,10 +121,11 @@ fn exact_record(draft: Draft) -> Record {
 
 fn any_record(random: &mut Random) -> Record {
     let kind = any_kind(random);
+    let version = any_version(random);
     let draft = if random.percent(2) {
-        fullest_draft(random)
+        fullest_draft(version, random)
     } else {
-        valid_draft(random)
+        valid_draft(version, random)
     };
     record_of(kind, draft, random)
 }
@@ -184,18 +196,24 @@ mod tests {
         printed.lines().map(names).collect()
     }
 
+    const VERSIONS: [Version; 2] = [Version::One, Version::Two];
+
     #[test]
     fn a_quiet_file_runs_and_answers_nothing() {
-        assert_eq!(line_names(Flavour::Quiet), ["run", "word", "sum"]);
+        for version in VERSIONS {
+            assert_eq!(line_names(Flavour::Quiet(version)), ["run", "word", "sum"]);
+        }
     }
 
     /// A read takes six steps, of which the fifth logs it: 1,024 are 170 and
     /// four over.
     #[test]
     fn reads_make_a_long_log() {
-        let names = line_names(Flavour::Reads);
-        let count = |name: &str| names.iter().filter(|other| *other == name).count();
-        assert_eq!((count("log"), count("answer")), (170, 170));
+        for version in VERSIONS {
+            let names = line_names(Flavour::Reads(version));
+            let count = |name: &str| names.iter().filter(|other| *other == name).count();
+            assert_eq!((count("log"), count("answer")), (170, 170));
+        }
     }
 
     /// The generator's valid files are valid: each has an outcome that is no
@@ -203,13 +221,87 @@ mod tests {
     #[test]
     fn valid_files_run() {
         let mut random = Random::seeded(11);
-        for _ in 0..500 {
-            let draft = valid_draft(&mut random);
-            let record = record_of(Kind::Valid, draft, &mut random);
-            let mut printed = Vec::new();
-            crate::sweep::print_record(&record, &mut printed).unwrap();
-            assert!(printed.starts_with(b"run "));
+        for version in VERSIONS {
+            for _ in 0..500 {
+                let draft = valid_draft(version, &mut random);
+                let record = record_of(Kind::Valid, draft, &mut random);
+                assert_eq!(u16::from(record.file[3]), version.number());
+                let mut printed = Vec::new();
+                crate::sweep::print_record(&record, &mut printed).unwrap();
+                assert!(printed.starts_with(b"run "));
+            }
+            let fullest = fullest_draft(version, &mut random).bytes();
+            assert_eq!(fullest.len(), version.longest_file());
         }
-        assert_eq!(fullest_draft(&mut random).bytes().len(), 5_195);
+    }
+
+    /// The version of each record, as its header gives it, if it has one.
+    fn versions(flavour: Flavour) -> Vec<u16> {
+        let files = records(17, 2_000, flavour).map(|record| record.file);
+        let version = |file: Vec<u8>| Some(u16::from_le_bytes([*file.get(3)?, *file.get(4)?]));
+        files.filter_map(version).collect()
+    }
+
+    #[test]
+    fn any_and_short_mix_the_versions_half_and_half() {
+        for flavour in [Flavour::Any, Flavour::Short] {
+            let versions = versions(flavour);
+            let of = |number: u16| versions.iter().filter(|other| **other == number).count();
+            assert!(of(1) > 800 && of(2) > 800, "{} and {}", of(1), of(2));
+            assert!([0, 3, 258].into_iter().all(|number| of(number) > 0));
+        }
+    }
+
+    #[test]
+    fn the_other_flavours_have_one_version() {
+        for version in VERSIONS {
+            let digit = if version == Version::Two { "2" } else { "" };
+            for name in ["few", "many", "quiet", "reads"] {
+                let flavour = Flavour::named(&format!("{name}{digit}")).unwrap();
+                let mut numbers = records(3, 3, flavour).map(|record| record.file[3]);
+                assert!(numbers.all(|number| u16::from(number) == version.number()));
+            }
+        }
+        assert!(Flavour::named("any2").is_none() && Flavour::named("few1").is_none());
+    }
+
+    /// Of files of version 2 that are not refused: whether some value is over
+    /// 65,535, some start word has bits from 48 up, and some compare row's old
+    /// and new are alike in their low 16 bits.
+    #[test]
+    fn files_of_version_2_use_all_their_bits() {
+        let mut random = Random::seeded(19);
+        let drafts: Vec<Draft> = (0..100)
+            .map(|_| valid_draft(Version::Two, &mut random))
+            .collect();
+        let rows = || drafts.iter().flat_map(|draft| &draft.rows);
+        assert!(rows().filter(|row| row.old > 65_535).count() > 500);
+        let alike = |row: &&draft::DraftRow| row.kind == 1 && (row.old ^ row.new) & 0xFFFF == 0;
+        assert!(rows().filter(alike).count() > 20);
+        let words = || drafts.iter().flat_map(|draft| &draft.words);
+        for bit in 0..64 {
+            assert!(words().any(|word| word >> bit & 1 == 1), "bit {bit}");
+        }
+    }
+
+    /// Each byte of old and of new of a read, faulty alone.
+    #[test]
+    fn every_byte_of_old_and_new_is_damaged_alone() {
+        let mut random = Random::seeded(23);
+        let mut met = [[false; 4]; 2];
+        for _ in 0..2_000 {
+            let draft = short_draft(Version::Two, &mut random);
+            let draft = faults::several_row_faults(draft, &mut random);
+            for row in draft.rows.iter().filter(|row| row.kind == 0) {
+                for (field, value) in [row.old, row.new].into_iter().enumerate() {
+                    let bytes = value.to_le_bytes();
+                    let faulty = bytes.iter().filter(|byte| **byte != 0).count();
+                    if let (1, Some(at)) = (faulty, bytes.iter().position(|byte| *byte != 0)) {
+                        met[field][at] = true;
+                    }
+                }
+            }
+        }
+        assert_eq!(met, [[true; 4]; 2]);
     }
 }

@@ -41,6 +41,10 @@ impl Random {
         self.next() as u16
     }
 
+    pub fn u32(&mut self) -> u32 {
+        self.next() as u32
+    }
+
     pub fn bytes(&mut self, count: usize) -> Vec<u8> {
         (0..count).map(|_| self.byte()).collect()
     }

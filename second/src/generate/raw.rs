@@ -4,10 +4,9 @@ use super::draft::Draft;
 use super::random::Random;
 use crate::stream::LONGEST_FILE;
 
-/// The longest file that need not be refused for its length.
-const LONGEST_VALID: usize = 5_195;
-
 pub fn damaged(draft: Draft, random: &mut Random) -> Vec<u8> {
+    // The longest file that need not be refused for its length.
+    let longest = draft.layout.longest_file();
     let mut file = draft.bytes();
     match random.below(10) {
         0 | 1 => flip_bits(&mut file, random),
@@ -18,7 +17,7 @@ pub fn damaged(draft: Draft, random: &mut Random) -> Vec<u8> {
         6 => file.truncate(random.one_of([0, 10, 11, 12, 15])),
         7 => file = random_bytes(random),
         8 => random_bytes_behind_a_header(&mut file, random),
-        _ => over_long(&mut file, random),
+        _ => over_long(&mut file, longest, random),
     }
     file
 }
@@ -67,9 +66,9 @@ fn random_bytes_behind_a_header(file: &mut [u8], random: &mut Random) {
 }
 
 /// Longer than any file may be, under a header that may look right.
-fn over_long(file: &mut Vec<u8>, random: &mut Random) {
-    let any = random.between(LONGEST_VALID + 1, LONGEST_FILE);
-    let length = random.one_of([LONGEST_VALID + 1, LONGEST_FILE, any]);
+fn over_long(file: &mut Vec<u8>, longest: usize, random: &mut Random) {
+    let any = random.between(longest + 1, LONGEST_FILE);
+    let length = random.one_of([longest + 1, LONGEST_FILE, any]);
     let missing = length.saturating_sub(file.len());
     file.extend(random.bytes(missing));
 }

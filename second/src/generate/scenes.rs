@@ -228,7 +228,7 @@ fn recovery_steps(opened: Opened, done: usize, swapped: bool) -> usize {
 fn weave(script: &mut Script) {
     struct Player {
         process: usize,
-        new: u16,
+        new: u32,
         done: usize,
         last: usize,
     }

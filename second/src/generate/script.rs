@@ -7,6 +7,7 @@
 
 use super::draft::{Draft, DraftRow, Palette};
 use super::random::Random;
+use crate::machine::Version;
 
 const CRASH: u8 = 0x10;
 const WAKE: u8 = 0x20;
@@ -28,6 +29,7 @@ pub const STEPS_TO_A4: usize = START_STEPS + 4;
 /// How large a file is to be.
 #[derive(Clone, Copy)]
 pub struct Size {
+    pub version: Version,
     pub processes: usize,
     pub words: usize,
     pub schedule: usize,
@@ -38,9 +40,9 @@ pub struct Size {
 pub struct Script<'r> {
     pub random: &'r mut Random,
     palette: Palette,
-    start_words: Vec<u32>,
+    start_words: Vec<u64>,
     /// The value that each word has by now, if all went as meant.
-    pub values: Vec<u16>,
+    pub values: Vec<u32>,
     /// The rows of each process, in the order in which it is to do them.
     rows: Vec<Vec<DraftRow>>,
     schedule: Vec<u8>,
@@ -52,7 +54,7 @@ pub struct Opened {
     /// How many steps it takes when nobody disturbs it.
     pub steps: usize,
     /// The value that it puts in, if it is to swap.
-    pub new: Option<u16>,
+    pub new: Option<u32>,
 }
 
 impl Opened {
@@ -66,13 +68,13 @@ impl Opened {
 
 impl<'r> Script<'r> {
     pub fn blank(size: Size, random: &'r mut Random) -> Script<'r> {
-        let palette = Palette::pick(random);
-        let start_words: Vec<u32> = (0..size.words)
+        let palette = Palette::pick(size.version, random);
+        let start_words: Vec<u64> = (0..size.words)
             .map(|_| palette.start_word(random))
             .collect();
         Script {
             palette,
-            values: start_words.iter().map(|word| *word as u16).collect(),
+            values: start_words.iter().map(|word| *word as u32).collect(),
             start_words,
             rows: vec![Vec::new(); size.processes],
             schedule: Vec::new(),
@@ -89,8 +91,13 @@ impl<'r> Script<'r> {
             let row = self.palette.row(process as u8, size.words, self.random);
             self.rows[process].push(row);
         }
-        let rows = self.rows.concat();
-        Draft::honest(size.processes as u8, self.start_words, rows, self.schedule)
+        Draft::honest(
+            size.version,
+            size.processes as u8,
+            self.start_words,
+            self.rows.concat(),
+            self.schedule,
+        )
     }
 
     pub fn length(&self) -> usize {
@@ -134,14 +141,14 @@ impl<'r> Script<'r> {
     }
 
     /// A row that swaps the word's value as guessed; its new value.
-    pub fn open_next_swap(&mut self, process: usize, word: usize) -> u16 {
+    pub fn open_next_swap(&mut self, process: usize, word: usize) -> u32 {
         let old = self.values[word];
         let new = self.palette.value_other_than(old, self.random);
         self.open_swap(process, word, old, new);
         new
     }
 
-    pub fn open_swap(&mut self, process: usize, word: usize, old: u16, new: u16) {
+    pub fn open_swap(&mut self, process: usize, word: usize, old: u32, new: u32) {
         self.rows[process].push(DraftRow::swap(process as u8, word as u8, old, new));
     }
 

@@ -4,21 +4,20 @@ use super::draft::{Draft, DraftRow, Palette};
 use super::random::Random;
 use super::scenes::{write_scenes, Mood};
 use super::script::{Size, SHORT_STEPS, STEPS_TO_A3};
+use crate::machine::{Version, LONGEST_SCHEDULE, MOST_PROCESSES, MOST_ROWS, MOST_WORDS};
 
-const MOST: usize = 16;
-const MOST_ROWS: usize = 512;
-const LONGEST_SCHEDULE: usize = 1024;
 /// Three stores, A1, A5 and A6.
 const STEPS_OF_A_READ: usize = 6;
 
-pub fn valid_draft(random: &mut Random) -> Draft {
-    let size = any_size(random);
+pub fn valid_draft(version: Version, random: &mut Random) -> Draft {
+    let size = any_size(version, random);
     draft_of(size, random)
 }
 
 /// A file that is short enough to be stored.
-pub fn short_draft(random: &mut Random) -> Draft {
+pub fn short_draft(version: Version, random: &mut Random) -> Draft {
     let size = Size {
+        version,
         processes: random.between(1, 4),
         words: random.between(1, 3),
         schedule: random.between(0, 75),
@@ -28,10 +27,11 @@ pub fn short_draft(random: &mut Random) -> Draft {
 }
 
 /// A file with the longest schedule, all of scenes of one mood.
-pub fn long_draft(mood: Mood, random: &mut Random) -> Draft {
+pub fn long_draft(version: Version, mood: Mood, random: &mut Random) -> Draft {
     let size = Size {
-        processes: random.between(4, MOST),
-        words: random.between(1, MOST),
+        version,
+        processes: random.between(4, MOST_PROCESSES),
+        words: random.between(1, MOST_WORDS),
         schedule: LONGEST_SCHEDULE,
         spare_rows: 0,
     };
@@ -41,9 +41,13 @@ pub fn long_draft(mood: Mood, random: &mut Random) -> Draft {
 /// A file with the longest schedule in which work is done at every byte and
 /// nothing is answered: each process is cut off in its recovery, again and
 /// again.
-pub fn quiet_draft(random: &mut Random) -> Draft {
-    let processes = random.between(4, MOST) as u8;
-    let rows = (0..processes).map(|process| DraftRow::swap(process, 0, 7, 8));
+pub fn quiet_draft(version: Version, random: &mut Random) -> Draft {
+    let processes = random.between(4, MOST_PROCESSES) as u8;
+    let (old, new) = match version {
+        Version::One => (7, 8),
+        Version::Two => (4_000_000_007, 4_000_000_008),
+    };
+    let rows = (0..processes).map(|process| DraftRow::swap(process, 0, old, new));
     // Start, A1, A2 and A3, so that the checkpoint is set.
     let mut schedule: Vec<u8> = (0..processes)
         .flat_map(|process| [process; STEPS_TO_A3])
@@ -54,15 +58,24 @@ pub fn quiet_draft(random: &mut Random) -> Draft {
         schedule.extend([0x10 | process, 0x20 | process, process, process, process]);
     }
     schedule.truncate(LONGEST_SCHEDULE);
-    Draft::honest(processes, vec![7], rows.collect(), schedule)
+    Draft::honest(
+        version,
+        processes,
+        vec![old.into()],
+        rows.collect(),
+        schedule,
+    )
 }
 
 /// A file with the longest schedule in which one process reads, again and
 /// again: a row in the log for every six bytes.
-pub fn reading_draft(random: &mut Random) -> Draft {
-    let value = random.below(65_536) as u32;
+pub fn reading_draft(version: Version, random: &mut Random) -> Draft {
+    let value = match version {
+        Version::One => random.below(65_536) as u64,
+        Version::Two => u64::from(random.u32()),
+    };
     let rows = vec![DraftRow::read(0, 0); LONGEST_SCHEDULE / STEPS_OF_A_READ + 1];
-    Draft::honest(1, vec![value], rows, vec![0; LONGEST_SCHEDULE])
+    Draft::honest(version, 1, vec![value], rows, vec![0; LONGEST_SCHEDULE])
 }
 
 fn draft_of(size: Size, random: &mut Random) -> Draft {
@@ -73,11 +86,12 @@ fn draft_of(size: Size, random: &mut Random) -> Draft {
     })
 }
 
-/// A file with all that fits in: 5,195 bytes.
-pub fn fullest_draft(random: &mut Random) -> Draft {
+/// A file with all that fits in: 5,195 bytes, or 7,307.
+pub fn fullest_draft(version: Version, random: &mut Random) -> Draft {
     let size = Size {
-        processes: MOST,
-        words: MOST,
+        version,
+        processes: MOST_PROCESSES,
+        words: MOST_WORDS,
         schedule: LONGEST_SCHEDULE,
         spare_rows: MOST_ROWS,
     };
@@ -87,12 +101,17 @@ pub fn fullest_draft(random: &mut Random) -> Draft {
 /// Rows needed and spare rows may be too many together; the last ones go.
 fn within_the_row_limit(mut draft: Draft) -> Draft {
     draft.rows.truncate(MOST_ROWS);
-    Draft::honest(draft.processes, draft.words, draft.rows, draft.schedule)
+    draft.made_honest()
 }
 
-fn any_size(random: &mut Random) -> Size {
-    let processes = random.weighted([(15, (1, 1)), (35, (2, 2)), (30, (3, 4)), (20, (5, MOST))]);
-    let words = random.weighted([(50, (1, 1)), (30, (2, 3)), (20, (4, MOST))]);
+fn any_size(version: Version, random: &mut Random) -> Size {
+    let processes = random.weighted([
+        (15, (1, 1)),
+        (35, (2, 2)),
+        (30, (3, 4)),
+        (20, (5, MOST_PROCESSES)),
+    ]);
+    let words = random.weighted([(50, (1, 1)), (30, (2, 3)), (20, (4, MOST_WORDS))]);
     let schedule = random.weighted([
         (3, (0, 0)),
         (12, (1, 12)),
@@ -101,9 +120,15 @@ fn any_size(random: &mut Random) -> Size {
         (12, (401, LONGEST_SCHEDULE)),
         (3, (LONGEST_SCHEDULE, LONGEST_SCHEDULE)),
     ]);
-    let spare_rows = random.weighted([(60, (0, 0)), (36, (1, 30)), (4, (MOST_ROWS, MOST_ROWS))]);
+    let spare_rows = random.weighted([
+        (56, (0, 0)),
+        (34, (1, 30)),
+        (6, (31, MOST_ROWS)),
+        (4, (MOST_ROWS, MOST_ROWS)),
+    ]);
     let mut within = |(low, high): (usize, usize)| random.between(low, high);
     Size {
+        version,
         processes: within(processes),
         words: within(words),
         schedule: within(schedule),
@@ -114,7 +139,7 @@ fn any_size(random: &mut Random) -> Size {
 /// Any rows of few values, and a schedule in bursts of one process, with
 /// crashes and wakes wherever they fall.
 fn write_wild(size: Size, random: &mut Random) -> Draft {
-    let palette = Palette::pick(random);
+    let palette = Palette::pick(size.version, random);
     let words = (0..size.words)
         .map(|_| palette.start_word(random))
         .collect();
@@ -128,7 +153,7 @@ fn write_wild(size: Size, random: &mut Random) -> Draft {
         .map(|process| palette.row(*process, size.words, random))
         .collect();
     let schedule = wild_schedule(size, random);
-    Draft::honest(size.processes as u8, words, rows, schedule)
+    Draft::honest(size.version, size.processes as u8, words, rows, schedule)
 }
 
 fn wild_schedule(size: Size, random: &mut Random) -> Vec<u8> {

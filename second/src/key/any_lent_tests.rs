@@ -26,7 +26,7 @@ fn any_status(random: &mut Random) -> Status {
     let work = Work {
         // Those that write the log come more often.
         stage: random.one_of([any_stage, any_stage, A4, A5]),
-        word_read: Word::from_number(random.one_of([7, 9, 0x0001_0007, 0x0001_0009])),
+        word_read: Word::from_number(random.one_of([7, 9, 0x0001_0000_0007, 0x0001_0000_0009])),
         a1: any_number(random),
         a4: any_number(random),
         to_store: any_answer(random),

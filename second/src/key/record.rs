@@ -61,7 +61,7 @@ pub enum Stage {
 pub enum Answer {
     False,
     True,
-    Value(u16),
+    Value(u32),
 }
 
 impl Record {

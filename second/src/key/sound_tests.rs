@@ -265,6 +265,6 @@ fn bits_words_and_positions_are_no_condition() {
     }
     assert_accepted(
         0,
-        swapping(at_a5(u32::MAX, u32::MAX, u32::MAX, Answer::True)),
+        swapping(at_a5(u64::MAX, u32::MAX, u32::MAX, Answer::True)),
     );
 }

@@ -17,7 +17,7 @@ fn other_swapping(status: Status) -> Record {
 }
 
 /// At a stage of an attempt that read this at position 3.
-fn attempt(stage: Stage, word_read: u32) -> Status {
+fn attempt(stage: Stage, word_read: u64) -> Status {
     Status::AtWork(Work {
         word_read: Word::from_number(word_read),
         a1: 3,
@@ -101,24 +101,34 @@ fn a1_reads_the_word() {
     };
     assert_step(swapping(at(A1)), swapping(read(A2, 7, None)));
     let value = Some(Answer::Value(9));
-    assert_step(reading(at(A1)), reading(read(A5, 0x0001_0009, value)));
+    assert_step(reading(at(A1)), reading(read(A5, 0x0001_0000_0009, value)));
     // A value other than old: 6 with flip bits.
     let mut bench = Bench::with(0, swapping(at(A1)));
-    bench.buffers.words[0] = 0x0003_0006;
-    let expected = swapping(read(A5, 0x0003_0006, Some(Answer::False)));
+    bench.buffers.words[0] = 0x0003_0000_0006;
+    let expected = swapping(read(A5, 0x0003_0000_0006, Some(Answer::False)));
+    assert_eq!(bench.after().records[0], expected);
+    // One that is old in its low 16 bits only.
+    bench.buffers.words[0] = 0x0001_0007;
+    let expected = swapping(read(A5, 0x0001_0007, Some(Answer::False)));
+    assert_eq!(bench.after().records[0], expected);
+    // A read takes the low 32 bits.
+    let mut bench = Bench::with(0, reading(at(A1)));
+    bench.buffers.words[1] = u64::MAX;
+    let value = Some(Answer::Value(u32::MAX));
+    let expected = reading(read(A5, u64::MAX, value));
     assert_eq!(bench.after().records[0], expected);
 }
 
-/// "keep the opposite of the own flip bit as just read": bit 16 of the word
-/// read for process 0, bit 17 for process 1, whatever the word is by now.
+/// "keep the opposite of the own flip bit as just read": bit 32 of the word
+/// read for process 0, bit 33 for process 1, whatever the word is by now.
 #[test]
 fn a2_keeps_the_opposite_bit() {
     for (word_read, of_0, of_1) in [
-        (0x0000_0007, true, true),
-        (0x0001_0007, false, true),
-        (0x0002_0007, true, false),
-        (0xFFFF_0007, false, false),
-        (0xFFFE_0007, true, false),
+        (0x0000_0000_0007, true, true),
+        (0x0001_0000_0007, false, true),
+        (0x0002_0000_0007, true, false),
+        (0xFFFF_0000_0007, false, false),
+        (0xFFFE_0000_0007, true, false),
     ] {
         for (process, kept_bit) in [(0, of_0), (1, of_1)] {
             let record = [swapping, other_swapping][process];
@@ -150,23 +160,34 @@ fn a4_swaps() {
     let bench = Bench::with(0, swapping(attempt(A4, 7)));
     let mut expected = bench.clone();
     expected.records[0] = swapping(at_a5(7, 3, 20, Answer::True));
-    expected.buffers.words[0] = 0x0001_0008;
+    expected.buffers.words[0] = 0x0001_0000_0008;
     expected.buffers.log[..5].copy_from_slice(&[20, 0, 0, 1, 0]);
     expected.counts.log = 1;
     assert_eq!(bench.after(), expected);
 
-    // Process 1: its flip bit is bit 17, that of process 0 stays.
-    let mut bench = Bench::with(1, other_swapping(attempt(A4, 0x0001_0009)));
+    // Process 1: its flip bit is bit 33, that of process 0 stays.
+    let mut bench = Bench::with(1, other_swapping(attempt(A4, 0x0001_0000_0009)));
     bench.byte = 0x01;
     let after = bench.after();
-    assert_eq!(after.buffers.words, [7, 0x0003_0007]);
+    assert_eq!(after.buffers.words, [7, 0x0003_0000_0007]);
     assert_eq!(after.buffers.log[..5], [20, 1, 2, 1, 0]);
+
+    // Bits of no process are carried along.
+    let word = 0x8001_FFFC << 32 | 7;
+    let mut bench = Bench::with(0, swapping(attempt(A4, word)));
+    bench.buffers.words[0] = word;
+    let words = bench.after().buffers.words;
+    assert_eq!(words[0], 0x8001_FFFD << 32 | 8);
 }
 
 /// "if the whole word, bits included, is still as read".
 #[test]
 fn a4_is_lost() {
-    for word in [0x0002_0007, 0x0000_0008, 0x0001_0007] {
+    let high = [1 << 48 | 7, 1 << 63 | 7, 0x0001_0007, 0x8000_0007];
+    for word in [0x0002_0000_0007, 0x0000_0000_0008, 0x0001_0000_0007]
+        .into_iter()
+        .chain(high)
+    {
         let mut bench = Bench::with(0, swapping(attempt(A4, 7)));
         bench.buffers.words[0] = word;
         let mut expected = bench.clone();
@@ -196,8 +217,8 @@ fn a5_stores_true_and_logs_nothing() {
 /// "a read, or a value that was not old, with the position of its A1"
 #[test]
 fn a5_logs_at_the_position_of_a1() {
-    let value_read = reading(at_a5(0x0001_0009, 3, 6, Answer::Value(9)));
-    let not_old = swapping(at_a5(0x0003_0006, 3, 6, Answer::False));
+    let value_read = reading(at_a5(0x0001_0000_0009, 3, 6, Answer::Value(9)));
+    let not_old = swapping(at_a5(0x0003_0000_0006, 3, 6, Answer::False));
     for (before, row) in [(value_read, [3, 0, 1, 3, 9]), (not_old, [3, 0, 0, 0, 0])] {
         let bench = Bench::with(0, before);
         let mut expected = bench.clone();
@@ -354,10 +375,10 @@ fn a_recovery_goes_by_what_is_kept() {
 #[test]
 fn v3_looks_at_the_own_flip_bit() {
     for (word, of_0, of_1) in [
-        (0x0000_0005, false, false),
-        (0x0001_0005, true, false),
-        (0x0002_0005, false, true),
-        (0xFFFD_0005, true, false),
+        (0x0000_0000_0005, false, false),
+        (0x0001_0000_0005, true, false),
+        (0x0002_0000_0005, false, true),
+        (0xFFFD_0000_0005, true, false),
     ] {
         for kept_bit in [false, true] {
             for (process, flip_bit) in [(0, of_0), (1, of_1)] {

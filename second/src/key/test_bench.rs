@@ -34,7 +34,7 @@ impl Bench {
             file: FILE.to_vec(),
             records: vec![Record::AT_FIRST; 2],
             buffers: Buffers {
-                words: vec![0x0000_0007, 0x0001_0009],
+                words: vec![0x0000_0000_0007, 0x0001_0000_0009],
                 log: vec![61; 10],
                 answers: vec![62; 10],
             },
@@ -104,7 +104,7 @@ pub fn at(stage: Stage) -> Status {
 }
 
 /// At A5 with an answer to store.
-pub fn at_a5(word_read: u32, a1: u32, a4: u32, answer: Answer) -> Status {
+pub fn at_a5(word_read: u64, a1: u32, a4: u32, answer: Answer) -> Status {
     with_answer(Stage::A5, word_read, a1, a4, answer)
 }
 
@@ -113,7 +113,7 @@ pub fn at_a6(answer: Answer) -> Status {
     with_answer(Stage::A6, 7, 3, 6, answer)
 }
 
-fn with_answer(stage: Stage, word_read: u32, a1: u32, a4: u32, answer: Answer) -> Status {
+fn with_answer(stage: Stage, word_read: u64, a1: u32, a4: u32, answer: Answer) -> Status {
     Status::AtWork(Work {
         stage,
         word_read: Word::from_number(word_read),

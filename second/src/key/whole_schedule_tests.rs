@@ -5,7 +5,7 @@
 
 use crate::generate::{records as generated, Flavour};
 use crate::keys::schedule;
-use crate::machine::{run, Buffers, Ran, RunFile};
+use crate::machine::{run, Buffers, Ran, RunFile, Version};
 use crate::stream::Record as StreamRecord;
 
 use super::test_bench::swapping;
@@ -20,7 +20,7 @@ const BEYOND: usize = 2;
 fn filled(record: &StreamRecord) -> Buffers {
     let lengths = record.lengths;
     Buffers {
-        words: vec![FILL; lengths.words],
+        words: vec![u64::from(FILL); lengths.words],
         log: vec![FILL; lengths.log],
         answers: vec![FILL; lengths.answers],
     }
@@ -122,11 +122,13 @@ fn files_of_every_size_end_as_their_runs_do() {
 
 #[test]
 fn files_with_the_longest_schedule_end_as_their_runs_do() {
-    for flavour in [Flavour::FewLost, Flavour::ManyLost] {
-        let (files, rows) = hold_all(33, 40, flavour);
-        assert!(files == 40 && rows > 2_000, "{files} files, {rows} rows");
+    for version in [Version::One, Version::Two] {
+        for flavour in [Flavour::FewLost(version), Flavour::ManyLost(version)] {
+            let (files, rows) = hold_all(33, 20, flavour);
+            assert!(files == 20 && rows > 1_000, "{files} files, {rows} rows");
+        }
+        assert_eq!(hold_all(33, 10, Flavour::Quiet(version)), (10, 0));
     }
-    assert_eq!(hold_all(33, 10, Flavour::Quiet), (10, 0));
 }
 
 /// Not only at the end: after every byte the buffers are those of a run that

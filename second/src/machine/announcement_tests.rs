@@ -8,7 +8,7 @@ type Five = [u32; 5];
 
 /// Final word, log and answers of a run over one word that starts at 7. Rows
 /// are process, old and new of compare rows.
-fn outcome(rows: &[(u8, u16, u16)], schedule: &[u8]) -> (u32, Vec<Five>, Vec<Five>) {
+fn outcome(rows: &[(u8, u16, u16)], schedule: &[u8]) -> (u64, Vec<Five>, Vec<Five>) {
     let processes = rows.iter().map(|row| row.0 + 1).max().unwrap_or(1);
     let mut file = b"SWR\x01\x00".to_vec();
     file.extend([processes, 1, rows.len() as u8, 0]);
@@ -49,7 +49,7 @@ const TWO_SWAPS: &[(u8, u16, u16)] = &[(0, 7, 8), (0, 8, 9)];
 /// row of the log and its answer. Its process has true stored, checkpoint 1
 /// and kept bit 1, which is also the flip bit: whatever a recovery of the
 /// second row saw of this would make it say true.
-const SWAPPED_ONCE: u32 = 0x0001_0008;
+const SWAPPED_ONCE: u64 = 0x0001_0000_0008;
 const FIRST_LOGGED: Five = [6, 0, 0, 1, 0];
 const FIRST_ANSWERED: Five = [8, 0, 0, 1, 0];
 
@@ -152,7 +152,7 @@ fn a_crash_of_all_between_the_stores() {
         (9, 0x02), // 31-39: A4 at 37
     ]);
     let (word, log, answers) = outcome(&rows, &schedule);
-    assert_eq!(word, 0x0007_0004);
+    assert_eq!(word, 0x0007_0000_0004);
     assert_eq!(log, [[16, 0, 0, 1, 0], [25, 1, 1, 1, 0], [37, 2, 3, 1, 0]]);
     let expected = [
         [18, 0, 0, 1, 0],
@@ -171,7 +171,7 @@ fn another_swaps_between_the_stores() {
         let rows = [(0, 8, 9), (1, 7, 8)];
         let schedule = times(&[(stores, 0x00), (9, 0x01), (9 - stores, 0x00)]);
         let (word, log, answers) = outcome(&rows, &schedule);
-        assert_eq!(word, 0x0003_0009);
+        assert_eq!(word, 0x0003_0000_0009);
         let first = stores as u32;
         assert_eq!(log, [[first + 6, 1, 1, 1, 0], [15, 0, 0, 1, 0]]);
         assert_eq!(answers, [[first + 8, 1, 1, 1, 0], [17, 0, 0, 1, 0]]);

@@ -6,10 +6,11 @@ use super::refusal::{refuse_if, Cause, Refusal};
 use super::run_file::RunFile;
 
 /// "Three buffers, lent as 32-bit numbers: the words (at least W numbers),
-/// the log and the answers (each at least 5 × S)."
+/// the log and the answers (each at least 5 × S)." By change request 5 "The
+/// words buffer becomes 64-bit numbers".
 #[derive(Clone, Debug, PartialEq, Eq)]
 pub struct Buffers {
-    pub words: Vec<u32>,
+    pub words: Vec<u64>,
     pub log: Vec<u32>,
     pub answers: Vec<u32>,
 }
@@ -65,7 +66,7 @@ impl Buffers {
     }
 }
 
-fn write_from_the_front(buffer: &mut [u32], numbers: impl Iterator<Item = u32>) {
+fn write_from_the_front<T>(buffer: &mut [T], numbers: impl Iterator<Item = T>) {
     for (slot, number) in buffer.iter_mut().zip(numbers) {
         *slot = number;
     }

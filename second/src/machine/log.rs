@@ -9,7 +9,7 @@ pub enum Verdict {
     False,
     True,
     Fail,
-    ValueRead(u16),
+    ValueRead(u32),
 }
 
 impl Verdict {
@@ -20,7 +20,7 @@ impl Verdict {
             Verdict::False => (0, 0),
             Verdict::True => (1, 0),
             Verdict::Fail => (2, 0),
-            Verdict::ValueRead(value) => (3, u32::from(value)),
+            Verdict::ValueRead(value) => (3, value),
         }
     }
 }

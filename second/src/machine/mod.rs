@@ -1,6 +1,7 @@
 //! The machine of document 01: it "runs a schedule of steps, crashes and
 //! wakings over shared words that survive a crash". Start is the three steps
-//! of change request 1, and refusal 9 has the place of change request 2.
+//! of change request 1, refusal 9 has the place of change request 2, and values
+//! have the 32 bits of change request 5.
 //!
 //! The way of a run: [`run_file`] reads and checks the file (refusals 1 to
 //! 12), [`lending`] checks the buffers (13 to 15) and writes the outcome into
@@ -15,6 +16,7 @@ mod process;
 mod refusal;
 mod row;
 mod run_file;
+mod version;
 mod word;
 
 pub use action::Action;
@@ -24,9 +26,12 @@ pub use process::Store;
 pub use refusal::{refuse_if, Cause, Refusal};
 pub use row::{Operation, Row};
 pub use run_file::RunFile;
+pub use version::{Version, LONGEST_SCHEDULE, MOST_PROCESSES, MOST_ROWS, MOST_WORDS};
 pub use word::Word;
 
 #[cfg(test)]
 mod announcement_tests;
 #[cfg(test)]
 mod refusal_tests;
+#[cfg(test)]
+mod version_2_tests;

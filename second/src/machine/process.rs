@@ -26,7 +26,7 @@ pub enum Stage {
 #[derive(Clone, Copy, Debug, PartialEq, Eq)]
 pub struct Attempt {
     pub seen: Word,
-    pub new: u16,
+    pub new: u32,
     pub a1: u32,
 }
 

@@ -7,7 +7,7 @@ pub enum Cause {
     Under11Bytes = 1,
     /// "mark is not `SWR`"
     Mark = 2,
-    /// "version is not 1"
+    /// "a version that is neither 1 nor 2" (change request 5)
     Version = 3,
     /// "P is 0 or over 16"
     ProcessCount = 4,

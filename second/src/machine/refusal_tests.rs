@@ -57,9 +57,11 @@ fn refusals_of_the_header() {
     for at in 0..3 {
         assert_eq!(refused(&with(&[(at, b's')])), Some((2, 0)));
     }
-    for (low, high) in [(0, 0), (2, 0), (0, 1), (1, 1)] {
+    for (low, high) in [(0, 0), (3, 0), (0, 1), (1, 1), (2, 1), (0, 2), (255, 255)] {
         assert_eq!(refused(&with(&[(3, low), (4, high)])), Some((3, 0)));
     }
+    // A file of version 2 would be longer.
+    assert_eq!(refused(&with(&[(3, 2)])), Some((8, 0)));
     for count in [0, 17, 255] {
         assert_eq!(refused(&with(&[(5, count)])), Some((4, 0)));
         assert_eq!(refused(&with(&[(6, count)])), Some((5, 0)));
@@ -240,7 +242,7 @@ fn a_run_writes_from_the_front_and_nothing_beyond() {
     file.extend([1; 6]);
     let mut buffers = lent(4, 35, 35);
     assert!(run(&file, &mut buffers).is_ok());
-    assert_eq!(buffers.words, [7, 0x0001_0009, 11, 11]);
+    assert_eq!(buffers.words, [7, 0x0001_0000_0009, 11, 11]);
     assert_eq!(buffers.log, [12; 35]);
     assert_eq!(buffers.answers, [13; 35]);
 

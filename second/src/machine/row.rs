@@ -4,7 +4,7 @@
 #[derive(Clone, Copy, Debug, PartialEq, Eq)]
 pub enum Operation {
     Read,
-    CompareAndSwap { old: u16, new: u16 },
+    CompareAndSwap { old: u32, new: u32 },
 }
 
 #[derive(Clone, Copy, Debug, PartialEq, Eq)]
@@ -14,36 +14,42 @@ pub struct Row {
     pub operation: Operation,
 }
 
-/// "A row: process, kind, word, a zero byte, then old and new (2 bytes
-/// each)." Each field with the offset of its first byte in the row.
+/// The fields of a row, in file order. Where each stands the version says.
 #[derive(Clone, Copy, Debug, PartialEq, Eq)]
 pub enum Field {
-    Process = 0,
-    Kind = 1,
-    Word = 2,
-    Zero = 3,
-    Old = 4,
-    New = 6,
+    Process,
+    Kind,
+    Word,
+    Zero,
+    Old,
+    New,
 }
 
-impl Field {
-    pub fn offset(self) -> usize {
-        self as usize
-    }
+/// A row as it is written, its fields not yet trusted.
+#[derive(Clone, Copy, Debug, PartialEq, Eq)]
+pub struct WrittenRow {
+    pub process: u8,
+    pub kind: u8,
+    pub word: u8,
+    pub zero: u8,
+    pub old: u32,
+    pub new: u32,
 }
 
-impl Row {
-    pub const BYTES: usize = 8;
-
+impl WrittenRow {
     /// The row, or its first faulty field when refusal 9 is due: "a row's
     /// process, kind or word out of range, its zero byte not 0, or a read
     /// whose old or new is not 0". "fields go in file order" (change request 2).
-    pub fn decode(bytes: [u8; Row::BYTES], processes: usize, words: usize) -> Result<Row, Field> {
-        let [process, kind, word, zero, old_low, old_high, new_low, new_high] = bytes;
-        let process = usize::from(process);
-        let word = usize::from(word);
-        let old = u16::from_le_bytes([old_low, old_high]);
-        let new = u16::from_le_bytes([new_low, new_high]);
+    pub fn checked(self, processes: usize, words: usize) -> Result<Row, Field> {
+        let WrittenRow {
+            kind,
+            zero,
+            old,
+            new,
+            ..
+        } = self;
+        let process = usize::from(self.process);
+        let word = usize::from(self.word);
         let reads = kind == 0;
 
         sound_if(process < processes, Field::Process)?;
@@ -62,7 +68,9 @@ impl Row {
             },
         })
     }
+}
 
+impl Row {
     /// Refusal 11: "a compare row with old equal to new".
     pub fn swaps_equal_for_equal(&self) -> bool {
         matches!(self.operation, Operation::CompareAndSwap { old, new } if old == new)

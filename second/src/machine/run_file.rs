@@ -4,21 +4,15 @@
 //! next begins, and the first offender is reported." So every check below is
 //! a pass of its own, and the passes stand in the order of the table.
 
-use crate::pieces::pieces;
-
 use super::action::Action;
 use super::refusal::{refuse_at, refuse_if, Cause, Refusal};
 use super::row::{Field, Row};
+use super::version::{Version, LONGEST_SCHEDULE, MOST_PROCESSES, MOST_ROWS, MOST_WORDS};
 use super::word::Word;
 
-/// "Three bytes `SWR`; a 16-bit version, 1; process count P (1 byte); word
-/// count W (1 byte); row count (2 bytes); schedule length S (2 bytes)."
-const HEADER_BYTES: usize = 11;
-/// "Then W words of 4 bytes".
-const WORD_BYTES: usize = 4;
-
 /// A run file in which nothing is left to refuse: every process and word that
-/// a row or an action names is there, and rows stand in order of process.
+/// a row or an action names is there, and rows stand in order of process. Of
+/// which version it was can no longer be told.
 #[derive(Debug)]
 pub struct RunFile {
     pub processes: usize,
@@ -48,13 +42,13 @@ struct Parts<'f> {
 impl RunFile {
     pub fn read(file: &[u8]) -> Result<RunFile, Refusal> {
         let (header, body) = Header::split_from(file)?;
-        header.check()?;
-        let parts = header.cut(body)?;
-        let rows = header.read_rows(parts.rows)?;
-        let schedule = header.read_schedule(parts.schedule)?;
+        let version = header.check()?;
+        let parts = header.cut(version, body)?;
+        let rows = header.read_rows(version, parts.rows)?;
+        let schedule = header.read_schedule(version, parts.schedule)?;
         Ok(RunFile {
             processes: header.processes,
-            words: read_words(parts.words),
+            words: version.words(parts.words),
             rows,
             schedule,
         })
@@ -82,21 +76,30 @@ impl Header {
     }
 
     /// Refusals 2 to 7. "P and W are 1 to 16, rows 0 to 512, S 0 to 1,024."
-    fn check(&self) -> Result<(), Refusal> {
+    fn check(&self) -> Result<Version, Refusal> {
         refuse_if(self.mark != *b"SWR", Cause::Mark)?;
-        refuse_if(self.version != 1, Cause::Version)?;
-        refuse_if(!(1..=16).contains(&self.processes), Cause::ProcessCount)?;
-        refuse_if(!(1..=16).contains(&self.words), Cause::WordCount)?;
-        refuse_if(self.rows > 512, Cause::RowCount)?;
-        refuse_if(self.schedule > 1024, Cause::ScheduleLength)
+        let Some(version) = Version::numbered(self.version) else {
+            return Err(Refusal {
+                cause: Cause::Version,
+                place: 0,
+            });
+        };
+        let in_range = |count: usize, most: usize| (1..=most).contains(&count);
+        refuse_if(
+            !in_range(self.processes, MOST_PROCESSES),
+            Cause::ProcessCount,
+        )?;
+        refuse_if(!in_range(self.words, MOST_WORDS), Cause::WordCount)?;
+        refuse_if(self.rows > MOST_ROWS, Cause::RowCount)?;
+        refuse_if(self.schedule > LONGEST_SCHEDULE, Cause::ScheduleLength)?;
+        Ok(version)
     }
 
     /// Refusal 8: "file length is not what the header gives". "Then W words
-    /// of 4 bytes, the operation rows of 8 bytes, the schedule bytes, and
-    /// nothing more."
-    fn cut<'f>(&self, body: &'f [u8]) -> Result<Parts<'f>, Refusal> {
-        let words_length = WORD_BYTES * self.words;
-        let rows_length = Row::BYTES * self.rows;
+    /// ..., the operation rows ..., the schedule bytes, and nothing more."
+    fn cut<'f>(&self, version: Version, body: &'f [u8]) -> Result<Parts<'f>, Refusal> {
+        let words_length = version.word_bytes() * self.words;
+        let rows_length = version.row_bytes() * self.rows;
         let promised = words_length + rows_length + self.schedule;
         refuse_if(body.len() != promised, Cause::FileLength)?;
         let (words, rest) = body.split_at(words_length);
@@ -110,56 +113,37 @@ impl Header {
 
     /// Refusal 9 at the first byte of "the first faulty field of the first
     /// faulty row" (change request 2); 10 and 11 at the "row's first byte".
-    fn read_rows(&self, bytes: &[u8]) -> Result<Vec<Row>, Refusal> {
-        let decoded: Vec<Result<Row, Field>> = pieces(bytes)
-            .map(|row| Row::decode(row, self.processes, self.words))
-            .collect();
-        let faulty_field = decoded.iter().enumerate().find_map(|(number, row)| {
+    fn read_rows(&self, version: Version, bytes: &[u8]) -> Result<Vec<Row>, Refusal> {
+        let row_place = |number| version.row_place(self.words, number);
+        let checked: Vec<Result<Row, Field>> =
+            version.rows(bytes, |row| row.checked(self.processes, self.words));
+        let faulty_field = checked.iter().enumerate().find_map(|(number, row)| {
             let field = row.err()?;
-            Some(self.row_place(number) + field.offset())
+            Some(row_place(number) + version.offset(field))
         });
         refuse_at(faulty_field, Cause::RowField)?;
 
-        let rows: Vec<Row> = decoded.into_iter().flatten().collect();
+        let rows: Vec<Row> = checked.into_iter().flatten().collect();
         let below_the_one_before = rows
             .windows(2)
             .position(|pair| matches!(pair, [before, row] if row.process < before.process))
-            .map(|before| self.row_place(before + 1));
+            .map(|before| row_place(before + 1));
         refuse_at(below_the_one_before, Cause::RowOrder)?;
 
-        let equal_for_equal = rows
-            .iter()
-            .position(Row::swaps_equal_for_equal)
-            .map(|number| self.row_place(number));
-        refuse_at(equal_for_equal, Cause::OldEqualsNew)?;
+        let equal_for_equal = rows.iter().position(Row::swaps_equal_for_equal);
+        refuse_at(equal_for_equal.map(row_place), Cause::OldEqualsNew)?;
         Ok(rows)
     }
 
     /// Refusal 12: "a schedule byte that is no action", at "that byte".
-    fn read_schedule(&self, bytes: &[u8]) -> Result<Vec<Action>, Refusal> {
+    fn read_schedule(&self, version: Version, bytes: &[u8]) -> Result<Vec<Action>, Refusal> {
         let decoded: Vec<Option<Action>> = bytes
             .iter()
             .map(|byte| Action::decode(*byte, self.processes))
             .collect();
         let no_action = decoded.iter().position(Option::is_none);
-        let schedule_begins = self.first_row_place() + Row::BYTES * self.rows;
+        let schedule_begins = version.row_place(self.words, self.rows);
         refuse_at(no_action.map(|at| schedule_begins + at), Cause::NoAction)?;
         Ok(decoded.into_iter().flatten().collect())
     }
-
-    fn first_row_place(&self) -> usize {
-        HEADER_BYTES + WORD_BYTES * self.words
-    }
-
-    /// The place of a row, from its number.
-    fn row_place(&self, number: usize) -> usize {
-        self.first_row_place() + Row::BYTES * number
-    }
-}
-
-/// "Any start word is allowed".
-fn read_words(bytes: &[u8]) -> Vec<Word> {
-    pieces(bytes)
-        .map(|word| Word::from_number(u32::from_le_bytes(word)))
-        .collect()
 }

@@ -3,6 +3,7 @@
 
 use crate::generate::{records, Flavour};
 use crate::keys::schedule;
+use crate::machine::Version;
 use crate::run::print_run;
 
 use super::panel;
@@ -64,8 +65,10 @@ fn printed(print: impl Fn(&mut Vec<u8>) -> std::io::Result<()>) -> String {
 fn the_lines_of_a_whole_schedule_tell_the_outcome_of_the_run() {
     let files = [
         (Flavour::Short, 300),
-        (Flavour::FewLost, 6),
-        (Flavour::ManyLost, 6),
+        (Flavour::FewLost(Version::One), 6),
+        (Flavour::FewLost(Version::Two), 6),
+        (Flavour::ManyLost(Version::One), 6),
+        (Flavour::ManyLost(Version::Two), 6),
     ];
     for (flavour, count) in files {
         for record in records(41, count, flavour) {

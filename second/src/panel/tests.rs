@@ -306,6 +306,40 @@ fn every_word_is_printed_first() {
     assert_eq!(printed(&file, ""), expected);
 }
 
+/// In version 2 the value is the low 32 bits, and the flip bits are all those
+/// from 32 up.
+#[test]
+fn a_file_of_version_2() {
+    let mut file = b"SWR\x02\x00\x01\x02\x02\x00\x00\x00".to_vec();
+    file.extend([0x07, 0x28, 0x6B, 0xEE, 0, 0, 1, 0]);
+    file.extend([0xFF; 8]);
+    file.extend([0, 1, 0, 0, 0x07, 0x28, 0x6B, 0xEE, 0, 0, 1, 0]);
+    file.extend([0, 0, 1, 0, 0, 0, 0, 0, 0, 0, 0, 0]);
+    let text = printed(&file, times(15, "0"));
+    let start = "run 1 2 2 0\nword 0 4000000007 65536\nword 1 4294967295 4294967295\nkey 0 ";
+    assert!(text.starts_with(start));
+    let swap = "\
+key 6 00 step 0
+process 0 stage A5
+word 0 65536 65537
+log 6 0 0 1 0 at 0
+key 7 ";
+    assert!(text.contains(swap));
+    let read = "\
+key 13 00 step 0
+process 0 stage A6
+process 0 stored value 4294967295
+log 12 0 1 3 4294967295 at 1
+key 14 00 step 0
+process 0 stage idle
+process 0 row none
+answer 14 0 1 3 4294967295
+";
+    assert_eq!(from_key(13, &text), read);
+    file[42] = 1;
+    assert_eq!(printed(&file, "00\n"), "refused 9 42\n");
+}
+
 /// "the one line `refused N PLACE`, and the program ends": no key is taken.
 #[test]
 fn a_refused_file() {
