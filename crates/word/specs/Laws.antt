@@ -37,7 +37,7 @@ module _ (b : ℕ) where
   word-one w x v e = sym (split w b) ∙ ap₂ (λ f r. f * 2 ^ b + r) (bits-one (w / 2 ^ b) (x / 2 ^ b) e) v ∙ split x b
 
   module _ (p n w : ℕ) where
-    flips-swapped : n < 2 ^ b → flipsIn b (swappedIn b p n w) ≡ turnOf p (flipsIn b w)
+    pub flips-swapped : n < 2 ^ b → flipsIn b (swappedIn b p n w) ≡ turnOf p (flipsIn b w)
     unfolding flipsIn swappedIn
     flips-swapped h = high (turnOf p (w / 2 ^ b)) b h
 

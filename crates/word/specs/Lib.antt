@@ -1,4 +1,5 @@
 pub mod Word
 pub mod Bits
 pub mod Laws
+pub mod Widths
 pub mod Promises
