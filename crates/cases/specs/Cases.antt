@@ -12,8 +12,8 @@ use Rattle.word.specs.Word.{bitOf, turnOf, valueIn, flipsIn, bitIn, swappedIn}
 use Rattle.rows.specs.Entries.{isSwapped}
 use Rattle.rows.specs.Log.{onePast, place, insert, isSwap, firstSwap}
 use Rattle.rows.specs.Buffers.{five, infront}
-use Rattle.machine.specs.Steps.{spoken, tried, storing, decide, stepTurn}
-use Rattle.machine.specs.Machine.{turn, apply, applied, procAt, act, step, after, begin}
+use Rattle.machine.specs.Steps.{spoken, triedIn, storingIn, decideIn, stepTurnIn}
+use Rattle.machine.specs.Machine.{turnIn, apply, applied, procAt, actIn, stepIn, afterIn, begin}
 use Rattle.run.specs.declared.Outcome.{Outcome}
 use Rattle.run.specs.declared.Outcome.the-variants as outcome
 use Rattle.run.specs.Run.{endOf, roomOf, outcomeOf, wordsLeft, logLeft, answersLeft, Ends}
@@ -187,7 +187,7 @@ ended f =
 
 -- the statement: each file of the table ends as the table says (R295)
 pub cases : map (λ x. ended (x .file)) table ≡ map (λ x. x .says) table
-unfolding joined times compares reads file lentWords lentRows resultOf row comesTo isRefused a b c d e f g h i j k l table ended u16At u32At marked headSize wordSize rowSize newPlace headerIn numberAt rowAt wordsOf rowsFrom tableOf rowNumbered first count names badField firstBadField sameFields badByte firstRow firstLaterRow firstByte refusalOf bitOf turnOf valueIn flipsIn bitIn swappedIn isSwapped onePast place insert isSwap firstSwap five infront spoken tried storing decide stepTurn turn apply applied procAt act step after begin endOf
+unfolding joined times compares reads file lentWords lentRows resultOf row comesTo isRefused a b c d e f g h i j k l table ended u16At u32At marked headSize wordSize rowSize newPlace headerIn numberAt rowAt wordsOf rowsFrom tableOf rowNumbered first count names badField firstBadField sameFields badByte firstRow firstLaterRow firstByte refusalOf bitOf turnOf valueIn flipsIn bitIn swappedIn isSwapped onePast place insert isSwap firstSwap five infront spoken triedIn storingIn decideIn stepTurnIn turnIn apply applied procAt actIn stepIn afterIn begin endOf
 cases = refl
 
 -- and `run` gives nothing else: whatever meets its contract on a file, over what is lent here, is what `ended` says

@@ -17,7 +17,7 @@ use Rattle.machine.specs.declared.Process.{Process}
 use Rattle.machine.specs.declared.Status.{Status}
 use Rattle.machine.specs.declared.Status.the-variants.{Down, Idle, N2, N3, Busy}
 use Rattle.machine.specs.Records.{waked}
-use Rattle.machine.specs.Machine.{State, procAt, step, after, begin}
+use Rattle.machine.specs.Machine.{State, procAt, step, after, afterIn, begin}
 use Rattle.machine.specs.Laws.{Turned, still, first-store, second-store, third-store, works, on, ends, each-after, fresh-at}
 use Rattle.demand3.specs.Statement.{counts, ownerOf}
 use Rattle.demand3.specs.Plans.{Plan, Covered, covered}
@@ -62,7 +62,7 @@ module _ (rows : List Row) (k : ℕ) where
 
   -- what has begun stays so
   stays-begun : (t byte : ℕ) (s : State) → hasBegun s ≡ true → hasBegun (step rows t byte s) ≡ true
-  unfolding after
+  unfolding afterIn
   stays-begun t byte s h =
       let p : ℕ = ownerOf rows k in
       let b : k < first rows p + procAt p s .begun = ltb-true k (first rows p + procAt p s .begun) h in
@@ -71,7 +71,7 @@ module _ (rows : List Row) (k : ℕ) where
 
   -- each byte at which the row begins makes it begun, and no byte unmakes it
   begins-so-far : (t : ℕ) (bytes : List ℕ) (s : State) → beginCount t bytes s + counts (hasBegun s) ≡ counts (hasBegun (after rows t bytes s))
-  unfolding after beginCount
+  unfolding afterIn beginCount
   begins-so-far t [] s = zero-add (counts (hasBegun s))
   begins-so-far t (byte ∷ bytes) s = go (hasBegun s) (hasBegun (step rows t byte s)) (stays-begun t byte s) (beginCount (suc t) bytes (step rows t byte s)) (begins-so-far (suc t) bytes (step rows t byte s))
     where

@@ -1,11 +1,12 @@
 -- What each effect keeps: the whole, and what others know.
-use Prim.Native.Nat.{ℕ, zero, suc, _+_, _≤_, _<_}
+use Prim.Native.Nat.{ℕ, suc, _+_, _≤_, _<_}
 use mathlib.Core.Path.{_≡_, refl, sym, _∙_, ap, ap₂, subst}
 use mathlib.Core.Bool.{Bool, true, false, true≢false}
 use mathlib.Core.List.{List, [], _∷_, _++_, map, append-nil}
 use lib.Dec.{eqb}
 use lib.ListN.{length, getD, set, List·getD-map, length-map}
 use Rattle.rows.specs.declared.Entry.{Entry}
+use Rattle.machine.specs.Laws.{map-set}
 use Rattle.machine.specs.Machine.{Effect, quiet, swaps, logs, replies, State, apply}
 use Rattle.runfile.specs.declared.Row.{Row}
 use Rattle.machine.specs.declared.Process.{Process}
@@ -23,11 +24,6 @@ use Rattle.replay.specs.Replay.{Good, final, moved-swapped, final-join, right-j
 use Rattle.demand3.specs.Statement.{of, wordOf}
 use Rattle.demand3.specs.Invariant.{Times, HasSwap, Since, as-read, overtaken, Global, Swapping, Logging, Allowed}
 use Rattle.demand3.specs.Frames.{Frame}
-
-map-set : (f : ℕ → ℕ) (l : List ℕ) (i y : ℕ) → map f (set l i y) ≡ set (map f l) i (f y)
-map-set f [] i y = refl
-map-set f (x ∷ l) zero y = refl
-map-set f (x ∷ l) (suc i) y = ap (λ l. f x ∷ l) (map-set f l i y)
 
 -- the entries of other rows
 pub of-put : (k : ℕ) {l l′ : List Entry} (e : Entry) → Put e l l′ → (e .row ≡ k → ⊥) → of k l′ ≡ of k l

@@ -42,7 +42,7 @@ flipBit rows P words = machineOf (step rows) P words
 
 -- its states are those that the contract of `run` speaks of
 pub through-after : (rows : List Row) (P : ℕ) (words : List ℕ) (t : ℕ) (bytes : List ℕ) (s : State) → through (flipBit rows P words) t bytes s ≡ after rows t bytes s
-unfolding through after
+unfolding through afterIn
 through-after rows P words t [] s = refl
 through-after rows P words t (byte ∷ bytes) s = through-after rows P words (suc t) bytes (step rows t byte s)
 

@@ -15,8 +15,8 @@ use Rattle.machine.specs.Turn.{Still, Quiet}
 use Rattle.machine.specs.Records.{fresh, with-stored}
 use Rattle.machine.specs.declared.Maybe.the-variants.{None}
 use Rattle.machine.specs.declared.Status.the-variants.{N2}
-use Rattle.machine.specs.Steps.{stepTurn}
-use Rattle.machine.specs.Machine.{State, Effect, Move, moveOf, wordsAfter, logAfter, answersAfter, procAt, apply, applied, turn, act, step}
+use Rattle.machine.specs.Steps.{stepTurnIn}
+use Rattle.machine.specs.Machine.{State, Effect, Move, moveOf, wordsAfter, logAfter, answersAfter, procAt, apply, applied, turn, turnIn, act, actIn, step, stepIn}
 use Rattle.replay.specs.Replay.{Good}
 use Rattle.demand3.specs.Invariant.{Times, Inv, Allowed}
 use Rattle.demand3.specs.Own.{Own, calm, busy}
@@ -39,7 +39,7 @@ module _ (rows : List Row) (start : List ℕ) (good : (k : ℕ) → Good (length
   does-own p u (busy j g o a loc) = allowed j (u .effect) g o a refl refl refl
 
   does-act : (a : Action) (p : ℕ) → Does rows start Late p t s (act rows t a p s)
-  unfolding act applied apply turn stepTurn
+  unfolding actIn applied apply turnIn stepTurnIn
   does-act steps p = go (ltb p P) refl
     where
       -- a process that is not there would be idle, and begin a row
@@ -61,5 +61,5 @@ module _ (rows : List Row) (start : List ℕ) (good : (k : ℕ) → Good (length
   does-act idles p = nothing refl refl refl
 
   pub does : (byte : ℕ) → Does rows start Late (named byte) t s (step rows t byte s)
-  unfolding step
+  unfolding stepIn
   does byte = does-act (action byte) (named byte)

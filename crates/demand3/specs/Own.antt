@@ -31,7 +31,7 @@ use native.Mathlib.Omega.{arith}
 use mathlib.Core.Logic.{_≢_}
 use lib.Seq.{getD-set-same}
 use borrow.Author.Tests.{eq-eqb, eqb-true, eqb-false, ltb-true}
-use Rattle.machine.specs.Steps.{entry, readBy, swapSays, lostBy, tried, storing, recovered, sameBit, decide, spoken}
+use Rattle.machine.specs.Steps.{entry, readBy, swapSays, lostBy, triedIn, storing, storingIn, recovered, sameBit, decide, decideIn, spoken}
 use Rattle.machine.specs.KindLaws.{loss-false, says-swapped, says-stored}
 use Rattle.machine.specs.Records.{with-status, with-kept, with-checkpoint, with-stored, closed, started}
 use Rattle.word.specs.Laws.{after-swap}
@@ -255,7 +255,7 @@ module _ (rows : List Row) (start : List ℕ) (good : (k : ℕ) → Good (length
     reading-later a x h = record { compares = h .compares; old = h .old; seen = seen-later a x (h .seen); since = h .since; own = h .own }
 
     own-A1 : (x a ta : ℕ) (ans : Maybe) → AtStage rows start Late p k t (s .words) (s .log) r A1 x a ans → Own rows start Late p t s r (moveOf rows (s .log) p t k (rowNumbered rows k .word) r (decide (rowNumbered rows k) p t word r A1 x a ta ans))
-    unfolding decide isSwapped spoken
+    unfolding decideIn isSwapped spoken
     own-A1 x a ta ans h = go (kindOf (rowNumbered rows k)) refl
       where
         compared : kindOf (rowNumbered rows k) ≡ Compare → (d : Bool) → eqb (value word) (rowNumbered rows k .old) ≡ d
@@ -274,7 +274,7 @@ module _ (rows : List Row) (start : List ℕ) (good : (k : ℕ) → Good (length
         go Compare q = compared q (eqb (value word) (rowNumbered rows k .old)) refl
 
     own-A2 : (x a ta : ℕ) (ans : Maybe) → AtStage rows start Late p k t (s .words) (s .log) r A2 x a ans → Own rows start Late p t s r (moveOf rows (s .log) p t k (rowNumbered rows k .word) r (decide (rowNumbered rows k) p t word r A2 x a ta ans))
-    unfolding decide due
+    unfolding decideIn due
     own-A2 x a ta ans h =
         own-quiet (with-kept (Busy A3 x a ta ans) (not (bit p x)) r) refl refl (rw (h .0, h .1)) (working k o ((h .0, h .1, reading-later a x (h .2), refl)))
 
@@ -282,17 +282,17 @@ module _ (rows : List Row) (start : List ℕ) (good : (k : ℕ) → Good (length
     unmatched a x h e = ap (sameBit (bit p word)) (e ∙ ap not (h .own)) ∙ same-not (bit p word)
 
     own-A3 : (x a ta : ℕ) (ans : Maybe) → AtStage rows start Late p k t (s .words) (s .log) r A3 x a ans → Own rows start Late p t s r (moveOf rows (s .log) p t k (rowNumbered rows k .word) r (decide (rowNumbered rows k) p t word r A3 x a ta ans))
-    unfolding decide due
+    unfolding decideIn due
     own-A3 x a ta ans h =
         own-quiet (with-checkpoint (Busy A4 x a ta ans) true r) refl refl (rw (h .0, h .1, unmatched a x (h .2) (h .3))) (working k o ((h .0, refl, reading-later a x (h .2), h .3)))
 
     own-A6 : (x a ta : ℕ) (ans : Maybe) → AtStage rows start Late p k t (s .words) (s .log) r A6 x a ans → Own rows start Late p t s r (moveOf rows (s .log) p t k (rowNumbered rows k .word) r (decide (rowNumbered rows k) p t word r A6 x a ta ans))
-    unfolding decide due
+    unfolding decideIn due
     own-A6 x a ta ans h =
         make-busy (record { process = closed r; effect = replies (entry t p k ans) }) (refl, named, refl) (λ ps. own-close rows start Late p t s r l k o (entry t p k ans) ans ps refl refl refl (rw (h .1, h .2)))
 
     own-V1 : (x a ta : ℕ) (ans : Maybe) → Own rows start Late p t s r (moveOf rows (s .log) p t k (rowNumbered rows k .word) r (decide (rowNumbered rows k) p t word r V1 x a ta ans))
-    unfolding decide
+    unfolding decideIn
     own-V1 x a ta ans = go (r .stored) refl
       where
         go : (c : Maybe) → r .stored ≡ c → Own rows start Late p t s r (alone (with-status (Busy (recovered c) x a ta ans) r))
@@ -300,7 +300,7 @@ module _ (rows : List Row) (start : List ℕ) (good : (k : ℕ) → Good (length
         go (Is b) e = own-quiet (with-status (Busy V5 x a ta ans) r) refl refl refl (working k o ((b, e)))
 
     own-V2 : (x a ta : ℕ) (ans : Maybe) → AtStage rows start Late p k t (s .words) (s .log) r V2 x a ans → Own rows start Late p t s r (moveOf rows (s .log) p t k (rowNumbered rows k .word) r (decide (rowNumbered rows k) p t word r V2 x a ta ans))
-    unfolding decide due
+    unfolding decideIn due
     own-V2 x a ta ans h = go (r .checkpoint) refl
       where
         go : (c : Bool) → r .checkpoint ≡ c → Own rows start Late p t s r (alone (with-status (Busy (cond c V3 V6) x a ta ans) r))
@@ -308,7 +308,7 @@ module _ (rows : List Row) (start : List ℕ) (good : (k : ℕ) → Good (length
         go false e = own-quiet (with-status (Busy V6 x a ta ans) r) refl refl refl (working k o ((h, rw e)))
 
     own-V3 : (x a ta : ℕ) (ans : Maybe) → AtStage rows start Late p k t (s .words) (s .log) r V3 x a ans → Own rows start Late p t s r (moveOf rows (s .log) p t k (rowNumbered rows k .word) r (decide (rowNumbered rows k) p t word r V3 x a ta ans))
-    unfolding decide
+    unfolding decideIn
     own-V3 x a ta ans h = go (matches rows start p k (s .words) (r .kept)) refl
       where
         go : (c : Bool) → matches rows start p k (s .words) (r .kept) ≡ c → Own rows start Late p t s r (alone (with-status (Busy (cond c V4 V6) word a ta ans) r))
@@ -316,17 +316,17 @@ module _ (rows : List Row) (start : List ℕ) (good : (k : ℕ) → Good (length
         go false e = own-quiet (with-status (Busy V6 word a ta ans) r) refl refl refl (working k o ((h .0, rw e (due-lost (says rows start k) (r .checkpoint)))))
 
     own-V4 : (x a ta : ℕ) (ans : Maybe) → AtStage rows start Late p k t (s .words) (s .log) r V4 x a ans → Own rows start Late p t s r (moveOf rows (s .log) p t k (rowNumbered rows k .word) r (decide (rowNumbered rows k) p t word r V4 x a ta ans))
-    unfolding decide due
+    unfolding decideIn due
     own-V4 x a ta ans h =
         own-quiet (with-stored (Busy V5 x a ta ans) (Is (says rows start k)) r) refl refl (rw (h .0, h .1, h .2)) (working k o ((says rows start k, refl)))
 
     own-V5 : (x a ta : ℕ) (ans : Maybe) → AtStage rows start Late p k t (s .words) (s .log) r V5 x a ans → Own rows start Late p t s r (moveOf rows (s .log) p t k (rowNumbered rows k .word) r (decide (rowNumbered rows k) p t word r V5 x a ta ans))
-    unfolding decide due
+    unfolding decideIn due
     own-V5 x a ta ans h =
         make-busy (record { process = closed r; effect = replies (entry t p k (r .stored)) }) (refl, named, refl) (λ ps. own-close rows start Late p t s r l k o (entry t p k (r .stored)) (r .stored) ps refl refl refl (rw (h .1)))
 
     own-V6 : (x a ta : ℕ) (ans : Maybe) → AtStage rows start Late p k t (s .words) (s .log) r V6 x a ans → Own rows start Late p t s r (moveOf rows (s .log) p t k (rowNumbered rows k .word) r (decide (rowNumbered rows k) p t word r V6 x a ta ans))
-    unfolding decide
+    unfolding decideIn
     own-V6 x a ta ans h =
         make-busy (record { process = closed r; effect = replies (entry t p k None) }) (refl, named, refl) (λ ps. own-close rows start Late p t s r l k o (entry t p k None) None ps refl refl refl (rw (h .0) (h .1)))
 
@@ -361,7 +361,7 @@ module _ (rows : List Row) (start : List ℕ) (good : (k : ℕ) → Good (length
         ∙ same-self (not (bit p x))
 
     own-A4 : (x a ta : ℕ) (ans : Maybe) → AtStage rows start Late p k t (s .words) (s .log) r A4 x a ans → Own rows start Late p t s r (moveOf rows (s .log) p t k (rowNumbered rows k .word) r (decide (rowNumbered rows k) p t word r A4 x a ta ans))
-    unfolding decide tried apply due
+    unfolding decideIn triedIn apply due
     own-A4 x a ta ans h = go (eqb word x) refl
       where
         e : Entry
@@ -424,7 +424,7 @@ module _ (rows : List Row) (start : List ℕ) (good : (k : ℕ) → Good (length
         })
 
     own-A5 : (x a ta : ℕ) (ans : Maybe) → r .stored ≡ None → Pending rows start Late p k t a x (s .words) (s .log) (r .checkpoint) (r .kept) ans → Own rows start Late p t s r (moveOf rows (s .log) p t k (rowNumbered rows k .word) r (decide (rowNumbered rows k) p t word r A5 x a ta ans))
-    unfolding decide storing due isSwapped spoken
+    unfolding decideIn storingIn due isSwapped spoken
     own-A5 x a ta ans st (won e c m) =
         let next : Process = with-stored (Busy A6 x a ta ans) ans r in
         let stays : Turn = storing (rowNumbered rows k) next x a ta ans in

@@ -16,7 +16,7 @@ use Rattle.machine.specs.declared.Opened.the-variants.{Open}
 use Rattle.machine.specs.declared.Status.{Status}
 use Rattle.machine.specs.declared.Status.the-variants.{Down, Idle, N2, N3, Busy}
 use Rattle.machine.specs.Records.{waked}
-use Rattle.machine.specs.Machine.{State, Effect, quiet, swaps, logs, replies, logAfter, procAt, step, after}
+use Rattle.machine.specs.Machine.{State, Effect, quiet, swaps, logs, replies, logAfter, procAt, step, after, afterIn}
 use Rattle.machine.specs.Laws.{Turned, still, first-store, second-store, third-store, works, on, ends, closed-open, each-after}
 use Rattle.replay.specs.Logs.{Sorted, put}
 use Rattle.replay.specs.Replay.{Good}
@@ -89,7 +89,7 @@ module _ (rows : List Row) (start : List ℕ) (good : (k : ℕ) → Good (length
 
     pub kept-after : (t : ℕ) (bytes : List ℕ) (s : State) → ((k a : ℕ) → t ≤ a → Late k a) → Inv rows start Late P t s → Passed rows p i (procAt p s)
         → of (first rows p + i) (after rows t bytes s .log) ≡ of (first rows p + i) (s .log)
-    unfolding after
+    unfolding afterIn
     kept-after t [] s now v passed = refl
     kept-after t (byte ∷ bytes) s now v passed =
         kept-after (suc t) bytes (step rows t byte s) (λ k a g. now k a (omega arith)) (inv-step rows start good owner Late mono t s (λ p k o. now k t (omega arith)) P v byte)

@@ -132,7 +132,7 @@ module _ (rows : List Row) (words : List ℕ) (P : ℕ) (plan : Plan P (length w
       subst (λ q. k < first rows q + procAt q (at n) .begun) (sym (owned n h p k o)) (omega arith)
 
   has-inv : (n : ℕ) → n ≤ length schedule → Inv rows start Has P n (at n)
-  unfolding after
+  unfolding afterIn
   has-inv =
       along (λ n. Inv rows start Has P n (at n)) (inv-begin rows Has P words)
       (λ n h v. subst (Inv rows start Has P (suc n)) (sym (next n h)) (inv-step rows start (good rows words P plan) (own rows words P plan) Has has-later n (at n) (has-now n (omega arith)) P v (byte n)))
@@ -156,7 +156,7 @@ module _ (rows : List Row) (words : List ℕ) (P : ℕ) (plan : Plan P (length w
       (ap (λ s. s .words) (sym (next n h)) ∙ ws))
 
   made : (n : ℕ) → n ≤ length schedule → All Made (at n .log)
-  unfolding after begin
+  unfolding afterIn begin
   made = along (λ n. All Made (at n .log)) tt (λ n h v. go n h v (what n h))
     where
       go : (n : ℕ) (h : n < length schedule) → All Made (at n .log) → Does rows start Always (named (byte n)) n (at n) (at (suc n)) → All Made (at (suc n) .log)
@@ -197,7 +197,7 @@ module _ (rows : List Row) (words : List ℕ) (P : ℕ) (plan : Plan P (length w
       }
 
   ends : (n : ℕ) → n ≤ length schedule → All (λ e. Ends (e .row) e) (at n .answers)
-  unfolding after begin
+  unfolding afterIn begin
   ends = along (λ n. All (λ e. Ends (e .row) e) (at n .answers)) tt (λ n h v. go n h v (what n h))
     where
       go : (n : ℕ) (h : n < length schedule) → All (λ e. Ends (e .row) e) (at n .answers) → Does rows start Always (named (byte n)) n (at n) (at (suc n)) → All (λ e. Ends (e .row) e) (at (suc n) .answers)

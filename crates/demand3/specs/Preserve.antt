@@ -5,7 +5,7 @@ use mathlib.Core.Bool.{Bool, true, false, cond}
 use mathlib.Core.List.{List, [], _∷_, map}
 use lib.Dec.{eqb, ltb}
 use lib.ListN.{length, getD, set, length-set, length-map, length-replicate, List·getD-eq-default}
-use Rattle.machine.specs.Machine.{Effect, quiet, swaps, logs, replies, Move, State, alone, procAt, apply, applied, moveOf, turn, begin, act, step, after}
+use Rattle.machine.specs.Machine.{Effect, quiet, swaps, logs, replies, Move, State, alone, procAt, apply, applied, moveOf, turn, turnIn, begin, act, actIn, step, stepIn, after, afterIn}
 use Rattle.runfile.specs.declared.Row.{Row}
 use Rattle.machine.specs.declared.Process.{Process}
 use Rattle.machine.specs.declared.Stage.the-variants.{V1}
@@ -22,7 +22,7 @@ use lib.Seq.{getD-set-same, getD-set-other, set-out}
 use borrow.Author.Tests.{eqb-true, eqb-false, ltb-true, ltb-false}
 use Rattle.runfile.specs.Actions.{Action, step as steps, crash as crashes, wake as wakes, crashAll as crashesAll, none as idles, actionOf}
 use Rattle.machine.specs.Turn.{Still, Quiet}
-use Rattle.machine.specs.Steps.{atWork, stepTurn}
+use Rattle.machine.specs.Steps.{atWork, stepTurnIn}
 use Rattle.machine.specs.Records.{rowOpen, fresh, with-status, with-stored, with-checkpoint, crashed, waked, wokenUp}
 use Rattle.machine.specs.Laws.{fresh-at}
 use Rattle.replay.specs.Replay.{Good, final}
@@ -57,7 +57,7 @@ module _ (rows : List Row) (start : List ℕ) (good : (k : ℕ) → Good (length
     local-same p ps r l = local-frame rows start Late Late p t (suc t) s (apply quiet ps s) r (frame-quiet rows start good Late p t ps s r) l
 
     pub own-turn : (p : ℕ) (r : Process) → ((k : ℕ) → r .opened ≡ Open k → Late k t) → Global rows start Late t s → Local rows start Late p t s r → (st : Status) → StatusOk rows start Late p t (s .words) (s .log) r st → Own rows start Late p t s r (turn rows p t (s .words) (s .log) r st)
-    unfolding turn stepTurn
+    unfolding turnIn stepTurnIn
     own-turn p r late g l Down h = calm refl (λ ps. local-same p ps r l)
     own-turn p r late g l Idle h = go (ltb (r .begun) (count rows p)) refl
       where
@@ -151,7 +151,7 @@ module _ (rows : List Row) (start : List ℕ) (good : (k : ℕ) → Good (length
       absent p h = List·getD-eq-default (s .processes) fresh (subst (λ n. n ≤ p) (sym (v .size)) h)
 
       inv-act : (a : Action) (p : ℕ) → Inv rows start Late P (suc t) (act rows t a p s)
-      unfolding act turn stepTurn
+      unfolding actIn turnIn stepTurnIn
       inv-act steps p = go (ltb p P) refl
         where
           idle : P ≤ p → (c : Bool) → Inv rows start Late P (suc t) (applied p (moveOf rows (s .log) p t 0 (rowNumbered rows 0 .word) fresh (cond c (Quiet (with-stored N2 None fresh)) Still)) s)
@@ -180,12 +180,12 @@ module _ (rows : List Row) (start : List ℕ) (good : (k : ℕ) → Good (length
       inv-act idles p = inv-same
 
       pub inv-step : (byte : ℕ) → Inv rows start Late P (suc t) (step rows t byte s)
-      unfolding step
+      unfolding stepIn
       inv-step byte = inv-act (actionOf (byte / 16)) (byte % 16)
 
   -- each time from t on is late enough: the invariant goes through the schedule
   pub inv-after : (P t : ℕ) (bytes : List ℕ) (s : State) → ((k a : ℕ) → t ≤ a → Late k a) → Inv rows start Late P t s → Inv rows start Late P (t + length bytes) (after rows t bytes s)
-  unfolding after
+  unfolding afterIn
   inv-after P t [] s now v = rw (add-zero t) v
   inv-after P t (byte ∷ bytes) s now v =
       rw (add-suc t (length bytes), ← (suc-add t (length bytes)))

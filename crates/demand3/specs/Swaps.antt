@@ -23,7 +23,7 @@ use Rattle.machine.specs.declared.Maybe.{Maybe}
 use Rattle.machine.specs.declared.Maybe.the-variants.{None, Is}
 use Rattle.machine.specs.declared.Opened.the-variants.{Open}
 use Rattle.machine.specs.Steps.{spoken, swapSays}
-use Rattle.machine.specs.Machine.{State, Effect, quiet, swaps, logs, replies, wordsAfter, logAfter, procAt, step, after}
+use Rattle.machine.specs.Machine.{State, Effect, quiet, swaps, logs, replies, wordsAfter, logAfter, procAt, step, after, afterIn}
 use Rattle.replay.specs.Lists.{keep, keep-join, keep-put-yes, Found, keep-found}
 use Rattle.replay.specs.Logs.{Put, put}
 use Rattle.replay.specs.Plain.{answerOf}
@@ -130,7 +130,7 @@ module _ (rows : List Row) (start : List ℕ) (good : (k : ℕ) → Good (length
 
   pub count-after : (t : ℕ) (bytes : List ℕ) (s : State) → ((k a : ℕ) → t ≤ a → Late k a) → Inv rows start Late P t s
       → swapsOf k (after rows t bytes s .log) ≡ swapCount (flipBit rows P words) rows k t bytes s + swapsOf k (s .log)
-  unfolding after swapCount
+  unfolding afterIn swapCount
   count-after t [] s now v = sym (zero-add (swapsOf k (s .log)))
   count-after t (byte ∷ bytes) s now v =
       let this : swapsOf k (step rows t byte s .log) ≡ counts (swapsAt (flipBit rows P words) rows k t byte s) + swapsOf k (s .log) = count-step t s (λ p k o. now k t (omega arith)) v byte in

@@ -25,8 +25,8 @@ use Rattle.machine.specs.declared.Status.the-variants.{Down, Idle, N2, N3, Busy
 use Rattle.machine.specs.Turn.{Turn, Still, Quiet, Swaps, Logs, Loses, Replies}
 use Rattle.machine.specs.Stages.{stageNumber}
 use Rattle.machine.specs.Records.{with-status, with-checkpoint, started, rowOpen}
-use Rattle.machine.specs.Steps.{spoken, tried, storing, decide, stepTurn}
-use Rattle.machine.specs.Machine.{State, Move, moveOf, applied, apply, procAt, turn, act, step, after, begin}
+use Rattle.machine.specs.Steps.{spoken, triedIn, storingIn, decideIn, stepTurn, stepTurnIn}
+use Rattle.machine.specs.Machine.{State, Move, moveOf, applied, apply, procAt, turnIn, actIn, step, stepIn, after, afterIn, begin}
 use Rattle.replay.specs.Plain.{answerOf, leaves}
 use Rattle.demand3.specs.Statement.{Firmware, of, Once, Logged, ownerOf, through, Ended, stateAfter, endState, Meets}
 use Rattle.demand3.specs.FlipBit.{machineOf}
@@ -87,11 +87,11 @@ captured = endState capturing captureSchedule
 
 -- it has ended worker 0's row and told it true, and has only worker 1's swap in its log
 row-begun : first captureRows 0 + procAt 0 captured .begun ≡ 1
-unfolding captured captureRows captureSchedule swap byValue recovering turnBy actBy stepBy through of rowNumbered first count valueIn bitIn swappedIn bitOf turnOf flipsIn isSwapped onePast place insert spoken tried storing decide stepTurn applied apply procAt turn act step after begin
+unfolding captured captureRows captureSchedule swap byValue recovering turnBy actBy stepBy through of rowNumbered first count valueIn bitIn swappedIn bitOf turnOf flipsIn isSwapped onePast place insert spoken triedIn storingIn decideIn stepTurnIn applied apply procAt turnIn actIn stepIn afterIn begin
 row-begun = refl
 
 row-shut : procAt 0 captured .opened ≡ Closed
-unfolding captured captureRows captureSchedule swap byValue recovering turnBy actBy stepBy through of rowNumbered first count valueIn bitIn swappedIn bitOf turnOf flipsIn isSwapped onePast place insert spoken tried storing decide stepTurn applied apply procAt turn act step after begin
+unfolding captured captureRows captureSchedule swap byValue recovering turnBy actBy stepBy through of rowNumbered first count valueIn bitIn swappedIn bitOf turnOf flipsIn isSwapped onePast place insert spoken triedIn storingIn decideIn stepTurnIn applied apply procAt turnIn actIn stepIn afterIn begin
 row-shut = refl
 
 row-ended : Ended capturing captureRows 0 captured
@@ -99,11 +99,11 @@ unfolding captureRows swap rowNumbered
 row-ended = record { begun = subst (λ n. 0 < n) (sym row-begun) (omega arith); shut = λ o. closed-open (sym row-shut ∙ o) }
 
 told-true : of 0 (captured .answers) ≡ record { position = 19; process = 0; row = 0; verdict = 1; value = 0 } ∷ []
-unfolding captured captureRows captureSchedule swap byValue recovering turnBy actBy stepBy through of rowNumbered first count valueIn bitIn swappedIn bitOf turnOf flipsIn isSwapped onePast place insert spoken tried storing decide stepTurn applied apply procAt turn act step after begin
+unfolding captured captureRows captureSchedule swap byValue recovering turnBy actBy stepBy through of rowNumbered first count valueIn bitIn swappedIn bitOf turnOf flipsIn isSwapped onePast place insert spoken triedIn storingIn decideIn stepTurnIn applied apply procAt turnIn actIn stepIn afterIn begin
 told-true = refl
 
 not-logged : of 0 (captured .log) ≡ []
-unfolding captured captureRows captureSchedule swap byValue recovering turnBy actBy stepBy through of rowNumbered first count valueIn bitIn swappedIn bitOf turnOf flipsIn isSwapped onePast place insert spoken tried storing decide stepTurn applied apply procAt turn act step after begin
+unfolding captured captureRows captureSchedule swap byValue recovering turnBy actBy stepBy through of rowNumbered first count valueIn bitIn swappedIn bitOf turnOf flipsIn isSwapped onePast place insert spoken triedIn storingIn decideIn stepTurnIn applied apply procAt turnIn actIn stepIn afterIn begin
 not-logged = refl
 
 -- whatever was told true, by a machine that has nothing of it in its log
@@ -143,7 +143,7 @@ placing = wrong atItsA4 backRows 3 (7 ∷ [])
 
 -- at that place the replay says true
 pub back-breaks : Meets placing backRows backSchedule → ⊥
-unfolding backRows backSchedule swap atItsA4 turnBy actBy stepBy through rowNumbered first count valueIn bitIn swappedIn bitOf turnOf flipsIn isSwapped onePast place insert spoken tried storing decide stepTurn applied apply procAt turn act step after begin names isSwap firstSwap answerOf leaves
+unfolding backRows backSchedule swap atItsA4 turnBy actBy stepBy through rowNumbered first count valueIn bitIn swappedIn bitOf turnOf flipsIn isSwapped onePast place insert spoken triedIn storingIn decideIn stepTurnIn applied apply procAt turnIn actIn stepIn afterIn begin names isSwap firstSwap answerOf leaves
 back-breaks d = let z : _≡_ {A = ℕ} 0 1 = ap (λ d. d .verdict) (d .replayed .1 .1 .0) in omega arith
 
 -- 3. The row opened before the checkpoint is cleared: R103 done before R102
@@ -172,15 +172,15 @@ early = endState opening earlySchedule
 
 -- it has ended the second row and told it true, and has only the first one's swap in its log
 told-early : of 1 (early .answers) ≡ record { position = 17; process = 0; row = 1; verdict = 1; value = 0 } ∷ []
-unfolding early earlyRows earlySchedule swap opensEarly announcing turnBy actBy stepBy through of rowNumbered first count valueIn bitIn swappedIn bitOf turnOf flipsIn isSwapped onePast place insert spoken tried storing decide stepTurn applied apply procAt turn act step after begin
+unfolding early earlyRows earlySchedule swap opensEarly announcing turnBy actBy stepBy through of rowNumbered first count valueIn bitIn swappedIn bitOf turnOf flipsIn isSwapped onePast place insert spoken triedIn storingIn decideIn stepTurnIn applied apply procAt turnIn actIn stepIn afterIn begin
 told-early = refl
 
 early-begun : first earlyRows 0 + procAt 0 early .begun ≡ 2
-unfolding early earlyRows earlySchedule swap opensEarly announcing turnBy actBy stepBy through of rowNumbered first count valueIn bitIn swappedIn bitOf turnOf flipsIn isSwapped onePast place insert spoken tried storing decide stepTurn applied apply procAt turn act step after begin
+unfolding early earlyRows earlySchedule swap opensEarly announcing turnBy actBy stepBy through of rowNumbered first count valueIn bitIn swappedIn bitOf turnOf flipsIn isSwapped onePast place insert spoken triedIn storingIn decideIn stepTurnIn applied apply procAt turnIn actIn stepIn afterIn begin
 early-begun = refl
 
 early-shut : procAt 0 early .opened ≡ Closed
-unfolding early earlyRows earlySchedule swap opensEarly announcing turnBy actBy stepBy through of rowNumbered first count valueIn bitIn swappedIn bitOf turnOf flipsIn isSwapped onePast place insert spoken tried storing decide stepTurn applied apply procAt turn act step after begin
+unfolding early earlyRows earlySchedule swap opensEarly announcing turnBy actBy stepBy through of rowNumbered first count valueIn bitIn swappedIn bitOf turnOf flipsIn isSwapped onePast place insert spoken triedIn storingIn decideIn stepTurnIn applied apply procAt turnIn actIn stepIn afterIn begin
 early-shut = refl
 
 early-ended : Ended opening earlyRows 1 early
@@ -188,7 +188,7 @@ unfolding earlyRows swap rowNumbered
 early-ended = record { begun = subst (λ n. 1 < n) (sym early-begun) (omega arith); shut = λ o. closed-open (sym early-shut ∙ o) }
 
 early-unlogged : of 1 (early .log) ≡ []
-unfolding early earlyRows earlySchedule swap opensEarly announcing turnBy actBy stepBy through of rowNumbered first count valueIn bitIn swappedIn bitOf turnOf flipsIn isSwapped onePast place insert spoken tried storing decide stepTurn applied apply procAt turn act step after begin
+unfolding early earlyRows earlySchedule swap opensEarly announcing turnBy actBy stepBy through of rowNumbered first count valueIn bitIn swappedIn bitOf turnOf flipsIn isSwapped onePast place insert spoken triedIn storingIn decideIn stepTurnIn applied apply procAt turnIn actIn stepIn afterIn begin
 early-unlogged = refl
 
 pub early-breaks : Meets opening earlyRows earlySchedule → ⊥

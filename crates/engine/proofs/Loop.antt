@@ -36,9 +36,9 @@ use Rattle.machine.specs.declared.Work.{Work}
 use Rattle.machine.specs.Turn.{Turn, Still, Quiet, Swaps, Logs, Loses, Replies}
 use Rattle.machine.specs.Stages.{stageNumber, stageAt, stage-of, numbered}
 use Rattle.machine.specs.Records.{fresh, nobody, with-status, with-kept, with-checkpoint, with-stored, closed, started, crashed, downTo, wokenUp, waked, rowOpen, WorkOpen}
-use Rattle.machine.specs.Steps.{entry, afterRead, tried, storing, recovered, sameBit, decide, stepTurn, working}
+use Rattle.machine.specs.Steps.{entry, afterRead, triedIn, storing, storingIn, recovered, sameBit, decide, decideIn, stepTurn, stepTurnIn, working}
 use Rattle.machine.specs.KindLaws.{says-true, loss-false}
-use Rattle.machine.specs.Machine.{State, Effect, quiet, swaps, logs, replies, processOf, effectOf, turn, wordsAfter, logAfter, answersAfter, apply, applied, procAt, act, step, after}
+use Rattle.machine.specs.Machine.{State, Effect, quiet, swaps, logs, replies, processOf, effectOf, turn, turnIn, wordsAfter, logAfter, answersAfter, apply, applied, procAt, act, actIn, step, stepIn, after, afterIn}
 use Rattle.machine.specs.Laws.{after-snoc, getD-either, Sane, sane-idle, sane-after}
 use Rattle.machine.specs.Promises.{entered, Enters, replyAt}
 use Rattle.engine.specs.Part.{Holds, stateLent, Left}
@@ -151,7 +151,7 @@ pub record Meets (P : ℕ) (bytes : List ℕ) (i : ℕ) (log answers : List ℕ)
 module _ (rows : List Row) (P : ℕ) (from : Standing) (bytes words log answers : List ℕ) where
   pub hold-start : length (from .processes) ≡ 16 → from .log * 5 ≤ length log → from .answers * 5 ≤ length answers
       → Holding rows P from bytes words log answers 0 words log answers (from .processes) (from .log) (from .answers)
-  unfolding stateAt after stateLent
+  unfolding stateAt afterIn stateLent
   hold-start size a b = record {
     done = omega arith;
     words-same = refl;
@@ -213,7 +213,7 @@ module _ {rows : List Row} {P : ℕ} {from : Standing} {bytes words₀ log₀ an
   t = from .position + i
 
   next : (a : Action) → action byte ≡ a → N ≡ act rows t a me S
-  unfolding stateAt step
+  unfolding stateAt stepIn
   next a e =
       rw (add-one i, take-suc bytes i 0 (q .inside))
       (after-snoc rows (from .position) (take i bytes) byte (stateLent P from words₀ log₀ answers₀)
@@ -275,7 +275,7 @@ module _ {rows : List Row} {P : ℕ} {from : Standing} {bytes words₀ log₀ an
       go (of-all all here) = all
 
   pub hold-all : byte / 16 ≡ 15 → (x : List Process) → x ≡ downTo P ps → Holding rows P from bytes words₀ log₀ answers₀ (i + 1) words log answers x m k
-  unfolding act
+  unfolding actIn
   hold-all e x down =
       let front : length (map crashed (take P ps)) ≡ P = length-map (take P ps) crashed ∙ length-take-le P ps (let z = h .size in let f = q .few in omega arith) in
       let kept : drop P x ≡ drop P ps = ap (drop P) down ∙ drop-at (map crashed (take P ps)) (drop P ps) P front in
@@ -312,11 +312,11 @@ module _ {rows : List Row} {P : ℕ} {from : Standing} {bytes words₀ log₀ an
     by-same is = subst (λ l. Holding rows P from bytes words₀ log₀ answers₀ (i + 1) words log answers l m k) (set-getD ps at nobody) (by-set quiet r is (did-quiet (q .log-room) (q .answers-room)))
 
     pub hold-crash : byte / 16 ≡ 1 → Holding rows P from bytes words₀ log₀ answers₀ (i + 1) words log answers (set ps at (crashed r)) m k
-    unfolding act applied
+    unfolding actIn applied
     hold-crash e = by-set quiet (crashed r) (next crashes (rw e) ∙ ap (λ q. apply quiet (set (S .processes) me (crashed q)) S) mine) (did-quiet (q .log-room) (q .answers-room))
 
     woke : byte / 16 ≡ 2 → (x : Process) → waked r (r .status) ≡ x → N ≡ apply quiet (set (S .processes) me x) S
-    unfolding act applied
+    unfolding actIn applied
     woke e x w = next wakes (rw e) ∙ ap (λ q. apply quiet (set (S .processes) me (waked q (q .status))) S) mine ∙ ap (λ x. apply quiet (set (S .processes) me x) S) w
 
     -- a wake: of one that is down, with no row open and with one; of one that is awake
@@ -346,7 +346,7 @@ module _ {rows : List Row} {P : ℕ} {from : Standing} {bytes words₀ log₀ an
 
     module _ (is : byte < 16) where
       moved : N ≡ apply (effectOf rows (S .log) me t K (row .word) u) (set (S .processes) me (processOf r u)) S
-      unfolding act turn applied
+      unfolding actIn turnIn applied
       moved =
           let z : byte / 16 ≡ 0 = omega arith in
           next steps (rw z)
@@ -377,7 +377,7 @@ module _ {rows : List Row} {P : ℕ} {from : Standing} {bytes words₀ log₀ an
       -- A5 is what `enter` did, whatever the record and the position are
       entering : (x : Process) (w : Work) → w .process ≡ me → w .row ≡ K
           → logAfter (effectOf rows (rowsOf m log) me t K (row .word) (storing row x (w .seen) (w .«read_at») (w .«tried_at») (w .answer))) (rowsOf m log) ≡ entered rows row (rowsOf m log) w
-      unfolding entered storing
+      unfolding entered storingIn
       entering x w by e = rw (by, e) (go (w .answer))
         where
           lost : (c : Bool) → logAfter (effectOf rows (rowsOf m log) me t K (row .word) (cond c (Loses x (w .«read_at») (w .«tried_at»)) (Logs x (w .«read_at») False))) (rowsOf m log)
@@ -395,7 +395,7 @@ module _ {rows : List Row} {P : ℕ} {from : Standing} {bytes words₀ log₀ an
       -- it touches no word and no answer, and leaves the record x
       alone : (x : Process) (w : Work) → (let e = effectOf rows (rowsOf m log) me t K (row .word) (storing row x (w .seen) (w .«read_at») (w .«tried_at») (w .answer)) in
           (wordsAfter e words ≡ words) × ((l : List Entry) → answersAfter e l ≡ l) × (processOf r (storing row x (w .seen) (w .«read_at») (w .«tried_at») (w .answer)) ≡ x))
-      unfolding storing
+      unfolding storingIn
       alone x w = go (w .answer)
         where
           lost : (c : Bool) → (let v = cond c (Loses x (w .«read_at») (w .«tried_at»)) (Logs x (w .«read_at») False) in let e = effectOf rows (rowsOf m log) me t K (row .word) v in
@@ -423,29 +423,29 @@ module _ {rows : List Row} {P : ℕ} {from : Standing} {bytes words₀ log₀ an
 
       -- what the step comes to, by the status
       pub at-down : r .status ≡ Down → u ≡ Still
-      unfolding stepTurn
+      unfolding stepTurnIn
       at-down e = ap (stepTurn row me t seenNow (first rows me) (count rows me) r) e
 
       pub at-idle : r .status ≡ Idle → (c : ℕ) → c ≡ count rows me → r .begun < c → u ≡ Quiet (with-stored N2 None r)
-      unfolding stepTurn
+      unfolding stepTurnIn
       at-idle e c is l = ap (stepTurn row me t seenNow (first rows me) (count rows me) r) e ∙ rw (lt-ltb (r .begun) (count rows me) (subst (λ (c : ℕ). r .begun < c) is l))
 
       pub at-done : r .status ≡ Idle → (c : ℕ) → c ≡ count rows me → c ≤ r .begun → u ≡ Still
-      unfolding stepTurn
+      unfolding stepTurnIn
       at-done e c is l = ap (stepTurn row me t seenNow (first rows me) (count rows me) r) e ∙ rw (le-ltb (r .begun) (count rows me) (subst (λ (c : ℕ). c ≤ r .begun) is l))
 
       pub at-N2 : r .status ≡ N2 → u ≡ Quiet (with-checkpoint N3 false r)
-      unfolding stepTurn
+      unfolding stepTurnIn
       at-N2 e = ap (stepTurn row me t seenNow (first rows me) (count rows me) r) e
 
       pub at-N3 : r .status ≡ N3 → (f : ℕ) → f ≡ first rows me → (x : Process) → x ≡ started (f + r .begun) r → u ≡ Quiet x
-      unfolding stepTurn
+      unfolding stepTurnIn
       at-N3 e f is x y = ap (stepTurn row me t seenNow (first rows me) (count rows me) r) e ∙ ap Quiet (sym (y ∙ ap (λ (f : ℕ). started (f + r .begun) r) is))
 
       -- in the midst of work on row K, by the stage and its number
       module _ {stage : Stage} {seen ra ta : ℕ} {answer : Maybe} (st : r .status ≡ Busy stage seen ra ta answer) (works : WorkOpen (r .status) (r .opened)) (number : ℕ) (numbers : number ≡ stageNumber stage) where
         decided : u ≡ decide row me t seenNow r (stageAt number) seen ra ta answer
-        unfolding stepTurn
+        unfolding stepTurnIn
         decided =
             let w = subst (λ st. WorkOpen st (r .opened)) st works in
             ap (stepTurn row me t seenNow (first rows me) (count rows me) r) st
@@ -456,54 +456,54 @@ module _ {rows : List Row} {P : ℕ} {from : Standing} {bytes words₀ log₀ an
         decided-at j e = decided ∙ ap (λ j. decide row me t seenNow r (stageAt j) seen ra ta answer) e
 
         pub at-A1 : number ≡ 0 → (found : Row) (now : ℕ) (next : Status) → found ≡ row → now ≡ seenNow → next ≡ afterRead found now t → u ≡ Quiet (with-status next r)
-        unfolding decide
+        unfolding decideIn
         at-A1 e found now next f n s = decided-at 0 e ∙ ap (λ st. Quiet (with-status st r)) (sym (s ∙ ap₂ (λ row now. afterRead row now t) f n))
 
         pub at-A2 : number ≡ 1 → (b : Bool) (next : Status) → b ≡ bit me seen → next ≡ Busy A3 seen ra ta answer → u ≡ Quiet (with-kept next (not b) r)
-        unfolding decide
+        unfolding decideIn
         at-A2 e b next f s = decided-at 1 e ∙ ap₂ (λ st b. Quiet (with-kept st (not b) r)) (sym s) (sym f)
 
         pub at-A3 : number ≡ 2 → (next : Status) → next ≡ Busy A4 seen ra ta answer → u ≡ Quiet (with-checkpoint next true r)
-        unfolding decide
+        unfolding decideIn
         at-A3 e next s = decided-at 2 e ∙ ap (λ st. Quiet (with-checkpoint st true r)) (sym s)
 
         pub at-won : number ≡ 3 → (now : ℕ) → now ≡ seenNow → now ≡ seen → (next : Status) → next ≡ Busy A5 seen ra t (Is True) → (found : Row) → found ≡ row → (x : ℕ) → x ≡ swapped me (found .new) seen
             → u ≡ Swaps (with-status next r) x True
-        unfolding decide tried
+        unfolding decideIn triedIn
         at-won e now n same next s found f x y =
             decided-at 3 e ∙ rw (eq-eqb seenNow seen (sym n ∙ same), says-true (kindOf row) (value seen), new-put (kindOf row) (row .new) (value seen))
             (ap₂ (λ st x. Swaps (with-status st r) x True) (sym s) (sym (y ∙ ap (λ (row : Row). swapped me (row .new) seen) f)))
 
         pub at-lost : number ≡ 3 → (now : ℕ) → now ≡ seenNow → (now ≡ seen → ⊥) → (next : Status) → next ≡ Busy A5 seen ra t (Is False) → u ≡ Quiet (with-status next r)
-        unfolding decide tried
+        unfolding decideIn triedIn
         at-lost e now n differ next s = decided-at 3 e ∙ rw (ne-eqb seenNow seen (λ z. differ (n ∙ z)), loss-false (kindOf row) seen ra t) (ap (λ st. Quiet (with-status st r)) (sym s))
 
         pub at-A5 : number ≡ 4 → (next : Status) → next ≡ Busy A6 seen ra ta answer → u ≡ storing row (with-stored next answer r) seen ra ta answer
-        unfolding decide
+        unfolding decideIn
         at-A5 e next s = decided-at 4 e ∙ ap (λ st. storing row (with-stored st answer r) seen ra ta answer) (sym s)
 
         pub at-V1 : number ≡ 6 → (to : Stage) → to ≡ recovered (r .stored) → (next : Status) → next ≡ Busy to seen ra ta answer → u ≡ Quiet (with-status next r)
-        unfolding decide
+        unfolding decideIn
         at-V1 e to g next s = decided-at 6 e ∙ ap (λ st. Quiet (with-status st r)) (sym (s ∙ ap (λ to. Busy to seen ra ta answer) g))
 
         pub at-V2 : number ≡ 7 → (to : Stage) → to ≡ cond (r .checkpoint) V3 V6 → (next : Status) → next ≡ Busy to seen ra ta answer → u ≡ Quiet (with-status next r)
-        unfolding decide
+        unfolding decideIn
         at-V2 e to g next s = decided-at 7 e ∙ ap (λ st. Quiet (with-status st r)) (sym (s ∙ ap (λ to. Busy to seen ra ta answer) g))
 
         pub at-V3 : number ≡ 8 → (now : ℕ) → now ≡ seenNow → (to : Stage) → to ≡ cond (sameBit (bit me now) (r .kept)) V4 V6 → (next : Status) → next ≡ Busy to now ra ta answer → u ≡ Quiet (with-status next r)
-        unfolding decide
+        unfolding decideIn
         at-V3 e now n to g next s =
             decided-at 8 e ∙ ap (λ st. Quiet (with-status st r))
             (sym (s ∙ ap₂ (λ to now. Busy to now ra ta answer) (g ∙ ap (λ now. cond (sameBit (bit me now) (r .kept)) V4 V6) n) n))
 
         pub at-V4 : number ≡ 9 → (next : Status) → next ≡ Busy V5 seen ra ta answer → u ≡ Quiet (with-stored next (Is True) r)
-        unfolding decide
+        unfolding decideIn
         at-V4 e next s = decided-at 9 e ∙ ap₂ (λ st a. Quiet (with-stored st (Is a) r)) (sym s) (says-true (kindOf row) (row .old))
 
         -- A6, V5 and V6
         pub at-reply : number ≢ 0 → number ≢ 1 → number ≢ 2 → number ≢ 3 → number ≢ 4 → number ≢ 6 → number ≢ 7 → number ≢ 8 → number ≢ 9 → (said : Maybe) → said ≡ replyAt number answer (r .stored)
             → u ≡ Replies (closed r) said
-        unfolding decide
+        unfolding decideIn
         at-reply n0 n1 n2 n3 n4 n6 n7 n8 n9 said s = go (eqb number 5) refl (eqb number 10) refl
           where
             below : number < 12

@@ -20,7 +20,7 @@ use Rattle.machine.specs.declared.Maybe.the-variants.{None, Is}
 use Rattle.machine.specs.Turn.{Loses, Logs}
 use Rattle.machine.specs.declared.Work.{Work}
 use Rattle.machine.specs.Records.{nobody}
-use Rattle.machine.specs.Steps.{entry, storing}
+use Rattle.machine.specs.Steps.{entry, storing, storingIn}
 use Rattle.machine.specs.Machine.{effectOf, logAfter}
 use Rattle.machine.specs.Promises.{falseAt, entered, Enters}
 
@@ -46,7 +46,7 @@ module _ (rows : List Row) (row : Row) (log : List ℕ) (m : ℕ) (w : Work) whe
   is-as a e = ap (λ a. logAfter (effectOf rows (rowsOf m log) (w .process) 0 (w .row) (row .word) (storing row nobody (w .seen) (w .«read_at») (w .«tried_at») a)) (rowsOf m log)) e
 
   false-as : after-as (Is False) ≡ insert (entry (falseAt rows row (rowsOf m log) w) (w .process) (w .row) (Is False)) (rowsOf m log)
-  unfolding after-as storing falseAt
+  unfolding after-as storingIn falseAt
   false-as = go (eqb (value (w .seen)) (row .old))
     where
       go : (c : Bool) → logAfter (effectOf rows (rowsOf m log) (w .process) 0 (w .row) (row .word) (cond c (Loses nobody (w .«read_at») (w .«tried_at»)) (Logs nobody (w .«read_at») False))) (rowsOf m log)
@@ -64,16 +64,16 @@ module _ (rows : List Row) (row : Row) (log : List ℕ) (m : ℕ) (w : Work) whe
   }
 
   pub enter-none : m * 5 ≤ length log → w .answer ≡ None → Enters rows row log m w m log
-  unfolding after-as storing
+  unfolding after-as storingIn
   enter-none room e = stays room (is-as None e)
 
   pub enter-true : m * 5 ≤ length log → w .answer ≡ Is True → Enters rows row log m w m log
-  unfolding after-as storing
+  unfolding after-as storingIn
   enter-true room e = stays room (is-as (Is True) e)
 
   pub enter-value : (said : Answer) → w .answer ≡ Is said → (v : ℕ) → said ≡ Value v → (e : Entry) (log′ : List ℕ) → e ≡ entry (w .«read_at») (w .process) (w .row) (Is said)
       → log′ ≡ infront (flat (insert e (rowsOf m log))) log → Enters rows row log m w (m + 1) log′
-  unfolding after-as storing
+  unfolding after-as storingIn
   enter-value said a v is e log′ en put =
       grows e log′ (is-as (Is (Value v)) (a ∙ ap Is is) ∙ ap (λ e. insert e (rowsOf m log)) (sym (en ∙ ap (λ s. entry (w .«read_at») (w .process) (w .row) (Is s)) is))) put
 

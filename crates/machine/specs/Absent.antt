@@ -67,7 +67,7 @@ module _ (rows : List Row) (p t : ℕ) (words : List ℕ) (log : List Entry) (r 
 
   at-work : (k : ℕ) → r .opened ≡ Open k → (stage : Stage) (seen readAt triedAt : ℕ) (answer : Maybe)
       → Left k (decide (rowNumbered rows k) p t (getD words (rowNumbered rows k .word) 0) r stage seen readAt triedAt answer)
-  unfolding decide storing tried isSwapped spoken
+  unfolding decideIn storingIn triedIn isSwapped spoken
   at-work k o A1 seen readAt triedAt answer = as-they-were
   at-work k o A2 seen readAt triedAt answer = as-they-were
   at-work k o A3 seen readAt triedAt answer = as-they-were
@@ -88,7 +88,7 @@ module _ (rows : List Row) (p t : ℕ) (words : List ℕ) (log : List Entry) (r 
   at-work k o V6 seen readAt triedAt answer = as-they-were
 
   leaves-turn : let f = turn rows p t words log r (r .status) .effect in Leaves rows p r words log (wordsAfter f words) (logAfter f log)
-  unfolding turn stepTurn
+  unfolding turnIn stepTurnIn
   leaves-turn = go (r .status)
     where
       k : ℕ
@@ -109,7 +109,7 @@ module _ (rows : List Row) (p t : ℕ) (words : List ℕ) (log : List Entry) (r 
       go (Busy stage seen readAt triedAt answer) = work (r .opened) refl stage seen readAt triedAt answer
 
 pub leaves : (rows : List Row) (t byte : ℕ) (s : State) → Leaves rows (named byte) (procAt (named byte) s) (s .words) (s .log) (step rows t byte s .words) (step rows t byte s .log)
-unfolding step act applied apply
+unfolding stepIn actIn applied apply
 leaves rows t byte s = go (action byte)
   where
     go : (a : Action) → Leaves rows (named byte) (procAt (named byte) s) (s .words) (s .log) (act rows t a (named byte) s .words) (act rows t a (named byte) s .log)
@@ -136,9 +136,13 @@ unfoldable pub turnedBy : ℕ → Bool → Bool
 turnedBy zero b = b
 turnedBy (suc n) b = turnedBy n (not b)
 
+-- rows whose swaps put in no more than b bits
+abbrev pub FittingIn : (b : ℕ) → List Row → Type 0
+FittingIn b rows = (k v : ℕ) → newOf (rowNumbered rows k) v < 2 ^ b
+
 -- old and new have two bytes each (R10): what a swap puts in has no more bits than a value
 abbrev pub Fitting : List Row → Type 0
-Fitting rows = (k v : ℕ) → newOf (rowNumbered rows k) v < 2 ^ width
+Fitting = FittingIn width
 
 module _ (q w p : ℕ) (words words′ : List ℕ) where
   -- bit q of word w, by whether process p, which the byte names, is q and has changed the word
@@ -189,7 +193,7 @@ module _ (rows : List Row) (fits : Fitting rows) (q w : ℕ) where
 
   -- bit q of word w is turned as often as q has changed the word
   pub bit-tells : (t : ℕ) (bytes : List ℕ) (s : State) → bit q (wordAt w (after rows t bytes s)) ≡ turnedBy (changes rows q w t bytes s) (bit q (wordAt w s))
-  unfolding after changes turnedBy
+  unfolding afterIn changes turnedBy
   bit-tells t [] s = refl
   bit-tells t (byte ∷ bytes) s =
       bit-tells (suc t) bytes (step rows t byte s)

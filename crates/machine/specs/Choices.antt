@@ -15,7 +15,7 @@ use Rattle.machine.specs.declared.Maybe.the-variants.{None, Is}
 use Rattle.machine.specs.declared.Status.the-variants.{Busy}
 use Rattle.machine.specs.Turn.{Turn, Quiet}
 use Rattle.machine.specs.Records.{with-status}
-use Rattle.machine.specs.Steps.{sameBit, recovered, decide}
+use Rattle.machine.specs.Steps.{sameBit, recovered, decide, decideIn}
 
 -- a step that leads to a stage, and changes nothing that is kept and nothing else
 pub record LeadsTo (r : Process) (stage : Stage) (u : Turn) : Type 0 where
@@ -35,21 +35,21 @@ same-or-not false false = inl refl
 module _ (row : Row) (p t now : ℕ) (r : Process) (seen readAt triedAt : ℕ) (answer : Maybe) where
   -- V1 goes by whether an answer is stored (R121)
   pub v1-stored : (a : Answer) → r .stored ≡ Is a → LeadsTo r V5 (decide row p t now r V1 seen readAt triedAt answer)
-  unfolding decide
+  unfolding decideIn
   v1-stored a e = record { seen = seen; readAt = readAt; triedAt = triedAt; answer = answer; is = ap (λ m. Quiet (with-status (Busy (recovered m) seen readAt triedAt answer) r)) e }
 
   pub v1-none : r .stored ≡ None → LeadsTo r V2 (decide row p t now r V1 seen readAt triedAt answer)
-  unfolding decide
+  unfolding decideIn
   v1-none e = record { seen = seen; readAt = readAt; triedAt = triedAt; answer = answer; is = ap (λ m. Quiet (with-status (Busy (recovered m) seen readAt triedAt answer) r)) e }
 
   -- V2 goes by the checkpoint (R122)
   pub v2-by : LeadsTo r (cond (r .checkpoint) V3 V6) (decide row p t now r V2 seen readAt triedAt answer)
-  unfolding decide
+  unfolding decideIn
   v2-by = record { seen = seen; readAt = readAt; triedAt = triedAt; answer = answer; is = refl }
 
   -- V3 goes by whether the own flip bit is the kept bit (R123)
   pub v3-same : bit p now ≡ r .kept → LeadsTo r V4 (decide row p t now r V3 seen readAt triedAt answer)
-  unfolding decide
+  unfolding decideIn
   v3-same e = record { seen = now; readAt = readAt; triedAt = triedAt; answer = answer; is = ap (λ c. Quiet (with-status (Busy (cond c V4 V6) now readAt triedAt answer) r)) (ap (λ b. sameBit b (r .kept)) e ∙ same (r .kept)) }
     where
       same : (b : Bool) → sameBit b b ≡ true
@@ -57,7 +57,7 @@ module _ (row : Row) (p t now : ℕ) (r : Process) (seen readAt triedAt : ℕ) (
       same false = refl
 
   pub v3-other : (bit p now ≡ r .kept → ⊥) → LeadsTo r V6 (decide row p t now r V3 seen readAt triedAt answer)
-  unfolding decide
+  unfolding decideIn
   v3-other n = record { seen = now; readAt = readAt; triedAt = triedAt; answer = answer; is = ap (λ c. Quiet (with-status (Busy (cond c V4 V6) now readAt triedAt answer) r)) (other (bit p now) (r .kept) n) }
     where
       other : (b c : Bool) → (b ≡ c → ⊥) → sameBit b c ≡ false

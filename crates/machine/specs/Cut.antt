@@ -28,9 +28,9 @@ use Rattle.machine.specs.declared.Status.{Status}
 use Rattle.machine.specs.declared.Status.the-variants.{Down, Idle, N2, N3, Busy}
 use Rattle.machine.specs.Records.{fresh, with-status, with-stored, crashed, waked, wokenUp, rowOpen}
 use Rattle.machine.specs.Turn.{Still, Quiet, Logs, Loses}
-use Rattle.machine.specs.Steps.{storing, decide, atWork, stepTurn}
+use Rattle.machine.specs.Steps.{storingIn, decide, decideIn, atWork, stepTurn, stepTurnIn}
 use Rattle.machine.specs.KindLaws.{either, read-leads, tried-leads}
-use Rattle.machine.specs.Machine.{State, processOf, turn, apply, applied, procAt, act, step, after, begin}
+use Rattle.machine.specs.Machine.{State, processOf, turn, turnIn, apply, applied, procAt, act, actIn, step, stepIn, after, afterIn, begin}
 use Rattle.machine.specs.Laws.{after-join, after-snoc, Turned, still, first-store, second-store, third-store, works, on, ends, turned, record-set, each-step, fresh-at}
 use Rattle.machine.specs.OneByte.{others, step-down, crash-down, no-action, all-down}
 use Rattle.machine.specs.Limits.{crashOf, howMany, none-more, size, present}
@@ -56,7 +56,7 @@ module _ (rows : List Row) (p t : ℕ) (s : State) where
   all-fall (r ∷ l) (suc q) = all-fall l q
 
   pub becomes : (byte : ℕ) → Becomes rows p (procAt p s) (procAt p (step rows t byte s))
-  unfolding step act applied apply procAt
+  unfolding stepIn actIn applied apply procAt
   becomes byte = go (action byte)
     where
       go : (a : Action) → Becomes rows p (procAt p s) (procAt p (act rows t a (named byte) s))
@@ -104,7 +104,7 @@ module _ (rows : List Row) (p : ℕ) where
 
   -- how many rows p has begun never falls
   pub begun-grows : (t : ℕ) (bytes : List ℕ) (s : State) → procAt p s .begun ≤ procAt p (after rows t bytes s) .begun
-  unfolding after
+  unfolding afterIn
   begun-grows t [] s = omega arith
   begun-grows t (byte ∷ bytes) s = go (begins-at t byte s) (begun-grows (suc t) bytes (step rows t byte s))
     where
@@ -114,7 +114,7 @@ module _ (rows : List Row) (p : ℕ) where
 
   -- with no row open, none is until another has begun, whatever the bytes are
   pub shut-until : (t : ℕ) (bytes : List ℕ) (s : State) → procAt p s .opened ≡ Closed → procAt p (after rows t bytes s) .begun ≡ procAt p s .begun → procAt p (after rows t bytes s) .opened ≡ Closed
-  unfolding after
+  unfolding afterIn
   shut-until t [] s o e = o
   shut-until t (byte ∷ bytes) s o e = go (begins-at t byte s) (begun-grows (suc t) bytes (step rows t byte s)) e (shut-until (suc t) bytes (step rows t byte s))
     where
@@ -136,7 +136,7 @@ abbrev pub Shut : Process → Type 0
 Shut r = Unopened (r .status) → r .opened ≡ Closed
 
 shut-work : (row : Row) (p t now : ℕ) (r : Process) (stage : Stage) (seen readAt triedAt : ℕ) (answer : Maybe) → Shut (processOf r (decide row p t now r stage seen readAt triedAt answer))
-unfolding decide storing
+unfolding decideIn storingIn
 shut-work row p t now r A1 seen readAt triedAt answer = read-leads (λ st. Shut (with-status st r)) row now t (λ x. absurd x) (λ a x. absurd x)
 shut-work row p t now r A2 seen readAt triedAt answer = λ x. absurd x
 shut-work row p t now r A3 seen readAt triedAt answer = λ x. absurd x
@@ -155,7 +155,7 @@ shut-work row p t now r V6 seen readAt triedAt answer = λ x. refl
 
 module _ (rows : List Row) where
   shut-turn : (p t : ℕ) (words : List ℕ) (log : List Entry) (r : Process) → Shut r → Shut (turn rows p t words log r (r .status) .process)
-  unfolding turn stepTurn
+  unfolding turnIn stepTurnIn
   shut-turn p t words log r h = go (r .status) refl
     where
       work : (o : Opened) (row : Row) (now : ℕ) (stage : Stage) (seen readAt triedAt : ℕ) (answer : Maybe) → Shut (processOf r (atWork row p t now r o stage seen readAt triedAt answer))
@@ -181,7 +181,7 @@ module _ (rows : List Row) where
   shut-waked r (Busy stage seen readAt triedAt answer) h = h
 
   pub shut-after : (t : ℕ) (bytes : List ℕ) (s : State) → ((q : ℕ) → Shut (procAt q s)) → (q : ℕ) → Shut (procAt q (after rows t bytes s))
-  unfolding after
+  unfolding afterIn
   shut-after t [] s h = h
   shut-after t (byte ∷ bytes) s h =
       shut-after (suc t) bytes (step rows t byte s) (each-step rows (λ q r. Shut r) shut-turn (λ p r h x. absurd x) (λ p r h. shut-waked r (r .status) h) t byte s h)
@@ -212,7 +212,7 @@ ofAll idles = false
 module _ (rows : List Row) (p : ℕ) where
   -- a crash of p or of all
   fell : (t byte : ℕ) (s : State) → p < length (s .processes) → crashOf p (action byte) (named byte) ≡ true → procAt p (step rows t byte s) ≡ crashed (procAt p s)
-  unfolding step act applied apply procAt
+  unfolding stepIn actIn applied apply procAt
   fell t byte s h x = go (action byte) (named byte) refl x
     where
       go : (a : Action) (q : ℕ) → action byte ≡ a → crashOf p a q ≡ true → procAt p (act rows t a q s) ≡ crashed (procAt p s)
@@ -253,7 +253,7 @@ module _ (rows : List Row) (p : ℕ) where
       go idles a x = ap (procAt p) (no-action rows t byte s a)
 
   lies-still : (t : ℕ) (bytes : List ℕ) (s : State) → p < length (s .processes) → procAt p s .status ≡ Down → Unwoken p bytes → procAt p (after rows t bytes s) ≡ procAt p s
-  unfolding after howMany
+  unfolding afterIn howMany
   lies-still t [] s h d u = refl
   lies-still t (byte ∷ bytes) s h d u =
       let v = none-more (wakeOf p (action byte) (named byte)) u in
@@ -261,7 +261,7 @@ module _ (rows : List Row) (p : ℕ) where
       lies-still (suc t) bytes (step rows t byte s) (rw (size rows p t byte s) h) (ap (λ (r : Process). r .status) same ∙ d) (v .1) ∙ same
 
   rose : (t byte : ℕ) (s : State) → p < length (s .processes) → action byte ≡ wakes → named byte ≡ p → procAt p (step rows t byte s) ≡ waked (procAt p s) (procAt p s .status)
-  unfolding step act applied apply procAt
+  unfolding stepIn actIn applied apply procAt
   rose t byte s h a q = rw (a, q) (getD-set-same (s .processes) p _ fresh h)
 
 -- What has become of process p, which had begun n rows, once it has been cut off and woken; `cut` is its record before the crash. It had no row
@@ -301,7 +301,7 @@ module _ (rows : List Row) (words : List ℕ) (P : ℕ) (schedule : List ℕ) (p
     woken = step rows (suc (t + length a) + length b) wake lying
 
     woken-is : after rows t (a ++ (crash ∷ (b ++ (wake ∷ [])))) s ≡ woken
-    unfolding after
+    unfolding afterIn
     woken-is = after-join rows t a (crash ∷ (b ++ (wake ∷ []))) s ∙ after-snoc rows (suc (t + length a)) b wake fallen
 
     shut-at-cut : procAt p at-cut .opened ≡ Closed

@@ -18,7 +18,7 @@ use Rattle.machine.specs.declared.Status.{Status}
 use Rattle.machine.specs.declared.Status.the-variants.{Busy}
 use Rattle.machine.specs.Turn.{Turn, Quiet, Swaps}
 use Rattle.machine.specs.Records.{with-status}
-use Rattle.machine.specs.Steps.{spoken, readBy, afterRead, swapSays, lostBy, tried, storing}
+use Rattle.machine.specs.Steps.{spoken, readBy, afterRead, swapSays, lostBy, tried, triedIn, storing, storingIn}
 
 -- With these kinds a swap says true, and a lost one is false.
 pub says-true : (kind : Kind) (v : ℕ) → swapSays kind v ≡ True
@@ -36,7 +36,7 @@ says-swapped Read v = refl
 says-swapped Compare v = refl
 
 pub says-stored : (kind : Kind) (v : ℕ) (row : Row) (next : Process) (seen readAt triedAt : ℕ) → storing row next seen readAt triedAt (Is (swapSays kind v)) ≡ Quiet next
-unfolding storing
+unfolding storingIn
 says-stored Read v row next seen readAt triedAt = refl
 says-stored Compare v row next seen readAt triedAt = refl
 
@@ -56,6 +56,6 @@ read-leads Q row now t goes-on done = go (kindOf row)
 pub tried-leads : (Q : Turn → Type 0) (p t : ℕ) (row : Row) (now : ℕ) (r : Process) (seen readAt : ℕ)
     → ((x : ℕ) → Q (Swaps (with-status (Busy A5 seen readAt t (Is (swapSays (kindOf row) (value seen)))) r) x (swapSays (kindOf row) (value seen)))) → Q (Quiet (with-status (Busy A5 seen readAt t (Is False)) r))
     → Q (tried p t row now r seen readAt)
-unfolding tried
+unfolding triedIn
 tried-leads Q p t row now r seen readAt won lost =
     either Q (eqb now seen) _ _ (won (swapped p (newOf row (value seen)) seen)) (subst (λ st. Q (Quiet (with-status st r))) (sym (loss-false (kindOf row) seen readAt t)) lost)

@@ -1,7 +1,7 @@
 -- The fold over a schedule, taken apart; what goes on to hold of a process record whatever the bytes are; and that an open row is a row of
 -- the file.
 use Prim.Native.Nat.{ℕ, zero, suc, _+_, _≤_, _<_}
-use mathlib.Core.Path.{_≡_, refl, sym, _∙_, subst}
+use mathlib.Core.Path.{_≡_, refl, sym, _∙_, ap, subst}
 use mathlib.Core.Bool.{Bool, true, false, cond}
 use mathlib.Core.List.{List, [], _∷_, _++_, map}
 use mathlib.Core.Logic.{_⊎_, inl, inr, ⊎-elim}
@@ -29,18 +29,18 @@ use Rattle.machine.specs.declared.Status.the-variants.{Down, Idle, N2, N
 use Rattle.machine.specs.Records.{fresh, with-status, with-stored, with-checkpoint, Announcing, started, crashed, waked, wokenUp, rowOpen, WorkOpen}
 use Rattle.machine.specs.Turn.{Still, Quiet, Logs, Loses}
 use Rattle.word.specs.Word.{value}
-use Rattle.machine.specs.Steps.{storing, decide, atWork, stepTurn}
+use Rattle.machine.specs.Steps.{storingIn, decide, decideIn, atWork, stepTurn, stepTurnIn}
 use Rattle.machine.specs.KindLaws.{either, read-leads, tried-leads}
-use Rattle.machine.specs.Machine.{State, processOf, turn, apply, applied, procAt, act, step, after, begin}
+use Rattle.machine.specs.Machine.{State, processOf, turn, turnIn, apply, applied, procAt, act, actIn, step, stepIn, after, afterIn, begin}
 
 pub after-join : (rows : List Row) (t : ℕ) (a b : List ℕ) (s : State) → after rows t (a ++ b) s ≡ after rows (t + length a) b (after rows t a s)
-unfolding after
+unfolding afterIn
 after-join rows t [] b s = rw (add-zero t)
 after-join rows t (x ∷ a) b s = rw (add-suc t (length a), ← (suc-add t (length a))) (after-join rows (suc t) a b (step rows t x s))
 
 -- one byte more
 pub after-snoc : (rows : List Row) (t : ℕ) (a : List ℕ) (b : ℕ) (s : State) → after rows t (a ++ (b ∷ [])) s ≡ step rows (t + length a) b (after rows t a s)
-unfolding after
+unfolding afterIn
 after-snoc rows t a b s = after-join rows t a (b ∷ []) s
 
 -- a turn of a process in the midst of work leaves it at work on the same row, or idle with none open; it begins no row
@@ -49,7 +49,7 @@ pub data Goes (r : Process) : Process → Type 0 where
   ends : {next : Process} → next .opened ≡ Closed → next .status ≡ Idle → next .begun ≡ r .begun → Goes r next
 
 pub goes : (row : Row) (p t now : ℕ) (r : Process) (stage : Stage) (seen readAt triedAt : ℕ) (answer : Maybe) → Goes r (processOf r (decide row p t now r stage seen readAt triedAt answer))
-unfolding decide storing
+unfolding decideIn storingIn
 goes row p t now r A1 seen readAt triedAt answer = read-leads (λ st. Goes r (with-status st r)) row now t (on refl refl (λ x. x)) (λ a. on refl refl (λ x. x))
 goes row p t now r A2 seen readAt triedAt answer = on refl refl (λ x. x)
 goes row p t now r A3 seen readAt triedAt answer = on refl refl (λ x. x)
@@ -75,7 +75,7 @@ pub data Turned (rows : List Row) (p : ℕ) (r : Process) : Process → Type 0 w
   works : {next : Process} → (k : ℕ) → r .opened ≡ Open k → Goes r next → Turned rows p r next
 
 pub turned : (rows : List Row) (p t : ℕ) (words : List ℕ) (log : List Entry) (r : Process) → Turned rows p r (turn rows p t words log r (r .status) .process)
-unfolding turn stepTurn
+unfolding turnIn stepTurnIn
 turned rows p t words log r = go (r .status) refl
   where
     start : (c : Bool) → ltb (r .begun) (count rows p) ≡ c → Turned rows p r (processOf r (cond c (Quiet (with-stored N2 None r)) Still))
@@ -98,6 +98,12 @@ pub getD-either : (l : List Process) (i : ℕ) (d e : Process) → i < length l 
 getD-either [] i d e h = absurd (omega arith)
 getD-either (x ∷ l) zero d e h = refl
 getD-either (x ∷ l) (suc i) d e h = getD-either l i d e (omega arith)
+
+-- what is done to each element, and then to one
+pub map-set : {A B : Type 0} (f : A → B) (l : List A) (i : ℕ) (x : A) → map f (set l i x) ≡ set (map f l) i (f x)
+map-set f [] i x = refl
+map-set f (y ∷ l) zero x = refl
+map-set {B = B} f (y ∷ l) (suc i) x = ap {B = List B} (λ l. f y ∷ l) (map-set f l i x)
 
 -- the record of q after process p has been given another
 pub record-set : (l : List Process) (p q : ℕ) (r : Process) → ((q ≡ p) × (getD (set l p r) q fresh ≡ r)) ⊎ (getD (set l p r) q fresh ≡ getD l q fresh)
@@ -130,7 +136,7 @@ module _ (rows : List Row) (Q : ℕ → Process → Type 0)
       (each-down l (suc at) (λ j k. let y : suc at + j ≡ at + suc j = omega arith in subst (λ n. Q n (getD l j fresh)) (sym y) (h (suc j) (omega arith))) q (omega arith))
 
   each-act : (t : ℕ) (a : Action) (p : ℕ) (s : State) → Each s → Each (act rows t a p s)
-  unfolding act applied apply Each procAt
+  unfolding actIn applied apply Each procAt
   each-act t steps p s h = each-set p _ s h (steps-keep p t (s .words) (s .log) (procAt p s) (h p))
   each-act t crashes p s h = each-set p _ s h (crashes-keep p (procAt p s) (h p))
   each-act t wakes p s h = each-set p _ s h (wakes-keep p (procAt p s) (h p))
@@ -146,7 +152,7 @@ module _ (rows : List Row) (Q : ℕ → Process → Type 0)
   each-act t idles p s h = h
 
   pub each-step : (t byte : ℕ) (s : State) → ((q : ℕ) → Q q (procAt q s)) → (q : ℕ) → Q q (procAt q (step rows t byte s))
-  unfolding step Each
+  unfolding stepIn Each
   each-step t byte s h = each-act t (action byte) (named byte) s h
 
 -- The same after a schedule, for what is kept by whatever a step may make of a record.
@@ -155,7 +161,7 @@ module _ (rows : List Row) (Q : ℕ → Process → Type 0)
     (crashes-keep : (p : ℕ) (r : Process) → Q p r → Q p (crashed r))
     (wakes-keep : (p : ℕ) (r : Process) → Q p r → Q p (waked r (r .status))) where
   pub each-after : (t : ℕ) (bytes : List ℕ) (s : State) → ((q : ℕ) → Q q (procAt q s)) → (q : ℕ) → Q q (procAt q (after rows t bytes s))
-  unfolding after
+  unfolding afterIn
   each-after t [] s h = h
   each-after t (byte ∷ bytes) s h =
       each-after (suc t) bytes (step rows t byte s)

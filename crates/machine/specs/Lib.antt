@@ -12,3 +12,4 @@ pub mod OneByte
 pub mod Limits
 pub mod Cut
 pub mod Absent
+pub mod Widths

@@ -27,9 +27,9 @@ use Rattle.machine.specs.declared.Status.the-variants.{Down, Idle, N2, N
 use Rattle.machine.specs.Turn.{Turn, Logs, Loses}
 use Rattle.word.specs.Word.{value, valueIn, bitIn, swappedIn, bitOf, turnOf, flipsIn}
 use Rattle.machine.specs.Records.{fresh, with-status, closed, wokenUp}
-use Rattle.machine.specs.Steps.{recovered, tried, storing, decide, stepTurn, working}
+use Rattle.machine.specs.Steps.{recovered, triedIn, storing, storingIn, decide, decideIn, stepTurnIn, working}
 use Rattle.machine.specs.Choices.{LeadsTo, v3-either}
-use Rattle.machine.specs.Machine.{State, processOf, turn, apply, applied, procAt, act, step, after, begin}
+use Rattle.machine.specs.Machine.{State, processOf, turn, turnIn, apply, applied, procAt, act, actIn, step, stepIn, after, afterIn, begin}
 use Rattle.machine.specs.Laws.{after-join, after-snoc}
 use Rattle.machine.specs.KindLaws.{either, read-leads, tried-leads}
 use Rattle.machine.specs.OneByte.{others, wake-awake, no-action}
@@ -137,7 +137,7 @@ module _ (row : Row) (p t now : ℕ) (r : Process) (all n begun k : ℕ) (o : r 
 
   -- A5 stores the answer (R115), whatever goes into the log
   stored : (next : Process) (seen readAt triedAt : ℕ) (answer : Maybe) → processOf r (storing row next seen readAt triedAt answer) ≡ next
-  unfolding storing
+  unfolding storingIn
   stored next seen readAt triedAt None = refl
   stored next seen readAt triedAt (Is True) = refl
   stored next seen readAt triedAt (Is (Value v)) = refl
@@ -145,7 +145,7 @@ module _ (row : Row) (p t now : ℕ) (r : Process) (all n begun k : ℕ) (o : r 
 
   -- a stage leads to one with fewer steps to go, by whichever branch
   nearer : (stage : Stage) (seen readAt triedAt : ℕ) (answer : Maybe) → further stage ≤ n → Nearer (processOf r (decide row p t now r stage seen readAt triedAt answer))
-  unfolding decide further
+  unfolding decideIn further
   nearer A1 seen readAt triedAt answer m = on _ (read-leads (Working n) row now t (omega arith) (λ a. omega arith)) refl refl
   nearer A2 seen readAt triedAt answer m = on _ (omega arith) refl refl
   nearer A3 seen readAt triedAt answer m = on _ (omega arith) refl refl
@@ -166,7 +166,7 @@ module _ (row : Row) (p t now : ℕ) (r : Process) (all n begun k : ℕ) (o : r 
 module _ (rows : List Row) (p : ℕ) where
   -- an own step brings the end nearer
   advance : (t : ℕ) (words : List ℕ) (log : List Entry) (r : Process) (n begun : ℕ) → Pending (count rows p) (suc n) begun r → Due (count rows p) n begun (turn rows p t words log r (r .status) .process)
-  unfolding turn stepTurn further
+  unfolding turnIn stepTurnIn further
   advance t words log r n begun (starts i l b m) = rw (i, lt-ltb (r .begun) (count rows p) l) (inr (clears refl b (omega arith)))
   advance t words log r n begun (clears i b m) = rw i (inr (opens refl b (omega arith)))
   advance t words log r n begun (opens i b m) = rw i (inr (works (first rows p + r .begun) (omega arith) refl b))
@@ -195,7 +195,7 @@ module _ (rows : List Row) (p : ℕ) where
 
   -- no byte adds or removes a process
   pub size : (t byte : ℕ) (s : State) → length (step rows t byte s .processes) ≡ length (s .processes)
-  unfolding step act applied apply
+  unfolding stepIn actIn applied apply
   size t byte s = go (action byte)
     where
       go : (a : Action) → length (act rows t a (named byte) s .processes) ≡ length (s .processes)
@@ -207,7 +207,7 @@ module _ (rows : List Row) (p : ℕ) where
 
   -- the record after an own step
   own : (t byte : ℕ) (s : State) → p < length (s .processes) → stepOf p (action byte) (named byte) ≡ true → procAt p (step rows t byte s) ≡ turn rows p t (s .words) (s .log) (procAt p s) (procAt p s .status) .process
-  unfolding step act applied apply procAt
+  unfolding stepIn actIn applied apply procAt
   own t byte s h x = go (action byte) (named byte) x
     where
       go : (a : Action) (q : ℕ) → stepOf p a q ≡ true → procAt p (act rows t a q s) ≡ turn rows p t (s .words) (s .log) (procAt p s) (procAt p s .status) .process
@@ -239,12 +239,12 @@ module _ (rows : List Row) (p : ℕ) where
   Ends n begun t bytes s = EndsWithin n begun p bytes (λ part. after rows t part s)
 
   at-once : (n begun t : ℕ) (bytes : List ℕ) (s : State) → Ended begun (procAt p s) → Ends n begun t bytes s
-  unfolding after howMany
+  unfolding afterIn howMany
   at-once n begun t bytes s e = record { part = []; rest = bytes; whole = refl; few = omega arith; ended = e }
 
   -- with a first byte more, which may be an own step
   onward : (n m begun t byte : ℕ) (bytes : List ℕ) (s : State) → cond (stepOf p (action byte) (named byte)) (suc m) m ≤ n → Ends m begun (suc t) bytes (step rows t byte s) → Ends n begun t (byte ∷ bytes) s
-  unfolding after howMany
+  unfolding afterIn howMany
   onward n m begun t byte bytes s l f = record { part = byte ∷ f .part; rest = f .rest; whole = ap (λ l. byte ∷ l) (f .whole); few = few (stepOf p (action byte) (named byte)) l (f .few); ended = f .ended }
     where
       few : (c : Bool) → cond c (suc m) m ≤ n → {k : ℕ} → k ≤ m → cond c (suc k) k ≤ n
@@ -271,7 +271,7 @@ module _ (rows : List Row) (p : ℕ) where
 
   -- p is one of the processes throughout
   pub present : (t : ℕ) (bytes : List ℕ) (s : State) → p < length (s .processes) → p < length (after rows t bytes s .processes)
-  unfolding after
+  unfolding afterIn
   present t [] s h = h
   present t (byte ∷ bytes) s h = present (suc t) bytes (step rows t byte s) (rw (size t byte s) h)
 
@@ -302,13 +302,13 @@ module _ (rows : List Row) (P : ℕ) (words : List ℕ) where
       woken = step rows (0 + length before) byte (ran before)
 
       woken-is : procAt p woken ≡ with-status (wokenUp (mine .opened)) mine
-      unfolding step act applied apply procAt
+      unfolding stepIn actIn applied apply procAt
       woken-is = rw (a, q, getD-set-same (ran before .processes) p _ fresh here, d)
 
       -- R151: after `before` it is down with a row open, and the next byte wakes it
       pub from-wake : (k : ℕ) (during : List ℕ) → recordOf p before .opened ≡ Open k → Uncrashed p during → 5 ≤ ownSteps p during
           → EndsWithin 5 (recordOf p before .begun) p during (λ part. ran (before ++ (byte ∷ part)))
-      unfolding after further
+      unfolding afterIn further
       from-wake k during o u n =
           retold _ _ p during _ _ (λ part. after-join rows 0 before (byte ∷ part) (begin P words))
           (within rows p 5 (mine .begun) (suc (0 + length before)) during woken (rw (size rows p (0 + length before) byte (ran before)) here) (rw (woken-is, o) (inr (works k (omega arith) refl refl))) u n)
@@ -330,7 +330,7 @@ module _ where
   first-f = replicate 4 0 ++ replicate 7 1
 
   pub case-f : EndsWithin 9 1 0 (first-f ++ replicate 5 0) (ran rows-f 2 (7 ∷ [])) × (recordOf rows-f 2 (7 ∷ []) 0 (first-f ++ replicate 4 0) .opened ≡ Open 0)
-  unfolding procAt after step act applied apply begin turn stepTurn decide tried storing count first rowNumbered howMany valueIn flipsIn swappedIn turnOf
+  unfolding procAt afterIn stepIn actIn applied apply begin turnIn stepTurnIn decideIn triedIn storingIn count first rowNumbered howMany valueIn flipsIn swappedIn turnOf
   case-f = (from-start rows-f 2 (7 ∷ []) 0 (omega arith) [] _ refl (omega arith) refl (omega arith), refl)
 
   abbrev rows-d : List Row
@@ -340,5 +340,5 @@ module _ where
   crashed-d = replicate 7 0 ++ (16 ∷ [])
 
   pub case-d : EndsWithin 5 1 0 (replicate 5 0) (λ part. ran rows-d 1 (7 ∷ []) (crashed-d ++ (32 ∷ part))) × (recordOf rows-d 1 (7 ∷ []) 0 (crashed-d ++ (32 ∷ replicate 4 0)) .opened ≡ Open 0)
-  unfolding procAt after step act applied apply begin turn stepTurn decide tried count first rowNumbered howMany valueIn flipsIn swappedIn turnOf bitIn bitOf
+  unfolding procAt afterIn stepIn actIn applied apply begin turnIn stepTurnIn decideIn triedIn count first rowNumbered howMany valueIn flipsIn swappedIn turnOf bitIn bitOf
   case-d = (from-wake rows-d 1 (7 ∷ []) 0 (omega arith) crashed-d 32 refl refl refl 0 _ refl refl (omega arith), refl)

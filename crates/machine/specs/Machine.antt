@@ -5,6 +5,7 @@ use lib.ListN.{getD, set, replicate}
 use Rattle.runfile.specs.declared.Row.{Row}
 use Rattle.runfile.specs.Actions.{Action, step as steps, crash as crashes, wake as wakes, crashAll as crashesAll, none as idles, action, named}
 use Rattle.runfile.specs.Operations.{rowNumbered, first, count}
+use Rattle.word.specs.Word.{width}
 use Rattle.rows.specs.declared.Entry.{Entry}
 use Rattle.rows.specs.Log.{insert, firstSwap}
 use Rattle.machine.specs.declared.Process.{Process}
@@ -13,7 +14,7 @@ use Rattle.machine.specs.declared.Maybe.the-variants.{Is}
 use Rattle.machine.specs.declared.Status.{Status}
 use Rattle.machine.specs.Turn.{Turn, Still, Quiet, Swaps, Logs, Loses, Replies}
 use Rattle.machine.specs.Records.{fresh, crashed, waked, rowOpen}
-use Rattle.machine.specs.Steps.{entry, stepTurn}
+use Rattle.machine.specs.Steps.{entry, stepTurnIn}
 
 pub record State : Type 0 where
   pub words : List ℕ
@@ -59,13 +60,6 @@ moveOf rows log p t k w r u = record { process = processOf r u; effect = effectO
 abbrev pub alone : Process → Move
 alone r = record { process = r; effect = quiet }
 
--- a step of process p, whose record is r and whose status is `status`
-unfoldable pub turn : List Row → (p t : ℕ) → List ℕ → List Entry → Process → Status → Move
-turn rows p t words log r status =
-    let k = rowOpen (r .opened) in
-    let row = rowNumbered rows k in
-    moveOf rows log p t k (row .word) r (stepTurn row p t (getD words (row .word) 0) (first rows p) (count rows p) r status)
-
 -- what an effect does to the words, to the log and to the answers
 abbrev pub wordsAfter : Effect → List ℕ → List ℕ
 wordsAfter quiet words = words
@@ -94,22 +88,43 @@ applied p u s = apply (u .effect) (set (s .processes) p (u .process)) s
 unfoldable pub procAt : ℕ → State → Process
 procAt p s = getD (s .processes) p fresh
 
--- what an action does at position t, p being the process that the byte names (R71, R72)
-unfoldable pub act : List Row → ℕ → Action → ℕ → State → State
-act rows t steps p s = applied p (turn rows p t (s .words) (s .log) (procAt p s) (procAt p s .status)) s
-act rows t crashes p s = applied p (alone (crashed (procAt p s))) s
-act rows t wakes p s = applied p (alone (waked (procAt p s) (procAt p s .status))) s
-act rows t crashesAll p s = apply quiet (map crashed (s .processes)) s
-act rows t idles p s = s
+module _ (b : ℕ) where
+  -- a step of process p, whose record is r and whose status is `status`
+  unfoldable pub turnIn : List Row → (p t : ℕ) → List ℕ → List Entry → Process → Status → Move
+  turnIn rows p t words log r status =
+      let k = rowOpen (r .opened) in
+      let row = rowNumbered rows k in
+      moveOf rows log p t k (row .word) r (stepTurnIn b row p t (getD words (row .word) 0) (first rows p) (count rows p) r status)
 
--- the byte at position t
-unfoldable pub step : List Row → ℕ → ℕ → State → State
-step rows t byte s = act rows t (action byte) (named byte) s
+  -- what an action does at position t, p being the process that the byte names (R71, R72)
+  unfoldable pub actIn : List Row → ℕ → Action → ℕ → State → State
+  actIn rows t steps p s = applied p (turnIn rows p t (s .words) (s .log) (procAt p s) (procAt p s .status)) s
+  actIn rows t crashes p s = applied p (alone (crashed (procAt p s))) s
+  actIn rows t wakes p s = applied p (alone (waked (procAt p s) (procAt p s .status))) s
+  actIn rows t crashesAll p s = apply quiet (map crashed (s .processes)) s
+  actIn rows t idles p s = s
 
--- the bytes of a schedule, the first of them at position t; positions go up by one from byte to byte (R70)
-unfoldable pub after : List Row → ℕ → List ℕ → State → State
-after rows t [] s = s
-after rows t (byte ∷ bytes) s = after rows (suc t) bytes (step rows t byte s)
+  -- the byte at position t
+  unfoldable pub stepIn : List Row → ℕ → ℕ → State → State
+  stepIn rows t byte s = actIn rows t (action byte) (named byte) s
+
+  -- the bytes of a schedule, the first of them at position t; positions go up by one from byte to byte (R70)
+  unfoldable pub afterIn : List Row → ℕ → List ℕ → State → State
+  afterIn rows t [] s = s
+  afterIn rows t (byte ∷ bytes) s = afterIn rows (suc t) bytes (stepIn rows t byte s)
+
+-- the same at the width of today
+abbrev pub turn : List Row → (p t : ℕ) → List ℕ → List Entry → Process → Status → Move
+turn = turnIn width
+
+abbrev pub act : List Row → ℕ → Action → ℕ → State → State
+act = actIn width
+
+abbrev pub step : List Row → ℕ → ℕ → State → State
+step = stepIn width
+
+abbrev pub after : List Row → ℕ → List ℕ → State → State
+after = afterIn width
 
 -- the state before the first byte (R181)
 unfoldable pub begin : ℕ → List ℕ → State

@@ -14,8 +14,8 @@ use Rattle.machine.specs.declared.Process.{Process}
 use Rattle.machine.specs.declared.Status.{Status}
 use Rattle.machine.specs.declared.Status.the-variants.{Down, Idle, N2, N3, Busy}
 use Rattle.machine.specs.Records.{fresh, crashed, waked}
-use Rattle.machine.specs.Steps.{stepTurn}
-use Rattle.machine.specs.Machine.{State, Move, alone, turn, apply, applied, procAt, act, step}
+use Rattle.machine.specs.Steps.{stepTurnIn}
+use Rattle.machine.specs.Machine.{State, Move, alone, turn, turnIn, apply, applied, procAt, act, actIn, step, stepIn}
 
 module _ (rows : List Row) (t : ℕ) (byte : ℕ) (s : State) where
   -- the process that the byte names
@@ -27,7 +27,7 @@ module _ (rows : List Row) (t : ℕ) (byte : ℕ) (s : State) where
 
   -- every other record is left as it was
   pub others : (action byte ≡ crashesAll → ⊥) → (q : ℕ) → (q ≡ me → ⊥) → procAt q (step rows t byte s) ≡ procAt q s
-  unfolding step act applied apply procAt
+  unfolding stepIn actIn applied apply procAt
   others not-all q other = go (action byte) not-all
     where
       go : (a : Action) → (a ≡ crashesAll → ⊥) → getD (act rows t a (named byte) s .processes) q fresh ≡ getD (s .processes) q fresh
@@ -46,19 +46,19 @@ module _ (rows : List Row) (t : ℕ) (byte : ℕ) (s : State) where
   as-it-was m e = ap (λ u. applied me u s) e ∙ same
 
   pub step-down : action byte ≡ steps → mine .status ≡ Down → step rows t byte s ≡ s
-  unfolding step act turn stepTurn
+  unfolding stepIn actIn turnIn stepTurnIn
   step-down a e = rw a (as-it-was _ (ap (turn rows me t (s .words) (s .log) mine) e))
 
   pub step-done : action byte ≡ steps → mine .status ≡ Idle → count rows me ≤ mine .begun → step rows t byte s ≡ s
-  unfolding step act turn stepTurn
+  unfolding stepIn actIn turnIn stepTurnIn
   step-done a e h = rw a (as-it-was _ (ap (turn rows me t (s .words) (s .log) mine) e ∙ rw (le-ltb (mine .begun) (count rows me) h)))
 
   pub crash-down : action byte ≡ crashes → mine .status ≡ Down → step rows t byte s ≡ s
-  unfolding step act
+  unfolding stepIn actIn
   crash-down a e = rw a (as-it-was _ (ap (λ st. alone (record { status = st; opened = mine .opened; stored = mine .stored; checkpoint = mine .checkpoint; kept = mine .kept; begun = mine .begun })) (sym e)))
 
   pub wake-awake : action byte ≡ wakes → (mine .status ≡ Down → ⊥) → step rows t byte s ≡ s
-  unfolding step act
+  unfolding stepIn actIn
   wake-awake a n = rw a (as-it-was _ (ap alone (go (mine .status) n)))
     where
       go : (st : Status) → (st ≡ Down → ⊥) → waked mine st ≡ mine
@@ -69,7 +69,7 @@ module _ (rows : List Row) (t : ℕ) (byte : ℕ) (s : State) where
       go (Busy stage seen readAt triedAt answer) n = refl
 
   pub no-action : action byte ≡ idles → step rows t byte s ≡ s
-  unfolding step act
+  unfolding stepIn actIn
   no-action a = rw a
 
   -- crashes and wakes touch no word, no log row and no answer row (R134)
@@ -79,7 +79,7 @@ module _ (rows : List Row) (t : ℕ) (byte : ℕ) (s : State) where
     pub answers : u .answers ≡ s .answers
 
   pub only-steps : (action byte ≡ steps → ⊥) → Untouched (step rows t byte s)
-  unfolding step act applied apply
+  unfolding stepIn actIn applied apply
   only-steps n = go (action byte) n
     where
       go : (a : Action) → (a ≡ steps → ⊥) → Untouched (act rows t a (named byte) s)
@@ -91,7 +91,7 @@ module _ (rows : List Row) (t : ℕ) (byte : ℕ) (s : State) where
 
   -- a crash of all brings down every process that is awake (R133)
   pub all-down : action byte ≡ crashesAll → (q : ℕ) → q < length (s .processes) → procAt q (step rows t byte s) ≡ crashed (procAt q s)
-  unfolding step act apply procAt
+  unfolding stepIn actIn apply procAt
   all-down a q h = rw a (go (s .processes) q h)
     where
       go : (l : List Process) (q : ℕ) → q < length l → getD (map crashed l) q fresh ≡ crashed (getD l q fresh)

@@ -1,5 +1,6 @@
--- One step of an awake process (R100 to R127). `decide` has a line for each stage. It looks at the record, the row, the word as it stands now and
+-- One step of an awake process (R100 to R127). `decideIn` has a line for each stage. It looks at the record, the row, the word as it stands now and
 -- the position, and at nothing else; what it comes to is carried out in Machine.antt.
+-- The rules are stated once, over the width b of the value (R14); `decide` and its neighbours are these at the width of today.
 use Prim.Native.Nat.{ℕ, _+_}
 use mathlib.Core.Path.{_≡_, ap}
 use mathlib.Core.Bool.{Bool, true, false, cond, not}
@@ -8,7 +9,7 @@ use Rattle.runfile.specs.declared.Row.{Row}
 use Rattle.runfile.specs.declared.Kind.{Kind}
 use Rattle.runfile.specs.declared.Kind.the-variants.{Read, Compare}
 use Rattle.runfile.specs.Kinds.{kindOf, newOf}
-use Rattle.word.specs.Word.{value, bit, swapped}
+use Rattle.word.specs.Word.{width, valueIn, bitIn, swappedIn}
 use Rattle.rows.specs.declared.Entry.{Entry}
 use Rattle.rows.specs.Entries.{Said}
 use Rattle.machine.specs.declared.Process.{Process}
@@ -36,16 +37,7 @@ spoken (Is (Value v)) = record { verdict = 3; value = v }
 abbrev pub entry : ℕ → ℕ → ℕ → Maybe → Entry
 entry position process row said = record { position = position; process = process; row = row; verdict = spoken said .verdict; value = spoken said .value }
 
--- A1: the word is read (R111). A read has its answer, and so has a compare that met another value than old; any other goes on to A2
-abbrev pub readBy : Kind → (old word t : ℕ) → Status
-readBy Read old word t = Busy A5 word t 0 (Is (Value (value word)))
-readBy Compare old word t = cond (eqb (value word) old) (Busy A2 word t 0 None) (Busy A5 word t 0 (Is False))
-
-abbrev pub afterRead : Row → ℕ → ℕ → Status
-afterRead row word t = readBy (kindOf row) (row .old) word t
-
--- A4: the swap succeeds if the word is to the bit the word that was read, and is lost otherwise (R114).
--- What a successful swap says, by the value v that it found, and what is done when it is lost, at position t; a read has no A4
+-- What a swap that succeeds at A4 says, by the value v that it found, and what is done when it is lost, at position t; a read has no A4
 abbrev pub swapSays : Kind → (v : ℕ) → Answer
 swapSays Read v = True
 swapSays Compare v = True
@@ -53,21 +45,6 @@ swapSays Compare v = True
 abbrev pub lostBy : Kind → (seen readAt t : ℕ) → Status
 lostBy Read seen readAt t = Busy A5 seen readAt t (Is False)
 lostBy Compare seen readAt t = Busy A5 seen readAt t (Is False)
-
-unfoldable pub tried : ℕ → ℕ → Row → ℕ → Process → ℕ → ℕ → Turn
-tried p t row now r seen readAt =
-    let says = swapSays (kindOf row) (value seen) in
-    cond (eqb now seen)
-    (Swaps (with-status (Busy A5 seen readAt t (Is says)) r) (swapped p (newOf row (value seen)) seen) says)
-    (Quiet (with-status (lostBy (kindOf row) seen readAt t) r))
-
--- A5: the answer is stored (R115). The log has a successful swap already (R164); a read and a value other than old enter it with the position of
--- their A1 (R165, R166), and a lost swap with that of the swap that beat it (R167)
-unfoldable pub storing : Row → Process → ℕ → ℕ → ℕ → Maybe → Turn
-storing row next seen readAt triedAt None = Quiet next
-storing row next seen readAt triedAt (Is True) = Quiet next
-storing row next seen readAt triedAt (Is (Value v)) = Logs next readAt (Value v)
-storing row next seen readAt triedAt (Is False) = cond (eqb (value seen) (row .old)) (Loses next readAt triedAt) (Logs next readAt False)
 
 -- V4 stores true (R124), as its swap said, which found old; no other value is at hand then
 abbrev pub recalled : Row → Answer
@@ -82,34 +59,81 @@ abbrev pub sameBit : Bool → Bool → Bool
 sameBit true b = b
 sameBit false b = not b
 
--- process p at position t, in the midst of work on a row whose word is `now`
-unfoldable pub decide : Row → ℕ → ℕ → ℕ → Process → Stage → ℕ → ℕ → ℕ → Maybe → Turn
-decide row p t now r A1 seen readAt triedAt answer = Quiet (with-status (afterRead row now t) r)
-decide row p t now r A2 seen readAt triedAt answer = Quiet (with-kept (Busy A3 seen readAt triedAt answer) (not (bit p seen)) r)
-decide row p t now r A3 seen readAt triedAt answer = Quiet (with-checkpoint (Busy A4 seen readAt triedAt answer) true r)
-decide row p t now r A4 seen readAt triedAt answer = tried p t row now r seen readAt
-decide row p t now r A5 seen readAt triedAt answer = storing row (with-stored (Busy A6 seen readAt triedAt answer) answer r) seen readAt triedAt answer
-decide row p t now r A6 seen readAt triedAt answer = Replies (closed r) answer
-decide row p t now r V1 seen readAt triedAt answer = Quiet (with-status (Busy (recovered (r .stored)) seen readAt triedAt answer) r)
-decide row p t now r V2 seen readAt triedAt answer = Quiet (with-status (Busy (cond (r .checkpoint) V3 V6) seen readAt triedAt answer) r)
-decide row p t now r V3 seen readAt triedAt answer = Quiet (with-status (Busy (cond (sameBit (bit p now) (r .kept)) V4 V6) now readAt triedAt answer) r)
-decide row p t now r V4 seen readAt triedAt answer = Quiet (with-stored (Busy V5 seen readAt triedAt answer) (Is (recalled row)) r)
-decide row p t now r V5 seen readAt triedAt answer = Replies (closed r) (r .stored)
-decide row p t now r V6 seen readAt triedAt answer = Replies (closed r) None
+module _ (b : ℕ) where
+  -- A1: the word is read (R111). A read has its answer, and so has a compare that met another value than old; any other goes on to A2
+  abbrev pub readByIn : Kind → (old word t : ℕ) → Status
+  readByIn Read old word t = Busy A5 word t 0 (Is (Value (valueIn b word)))
+  readByIn Compare old word t = cond (eqb (valueIn b word) old) (Busy A2 word t 0 None) (Busy A5 word t 0 (Is False))
 
--- A step of a process that is down changes nothing (R140), nor does one of an idle process with no rows left (R141). A row is announced by three
--- stores, a step each: the stored answer is cleared (R101), the checkpoint becomes 0 (R102), the row is opened (R103). A process in the midst of
--- work has a row open: that is `row`, and `now` is its word. The process has `count` rows, the first of which is row number `first`
+  abbrev pub afterReadIn : Row → ℕ → ℕ → Status
+  afterReadIn row word t = readByIn (kindOf row) (row .old) word t
+
+  -- A4: the swap succeeds if the word is to the bit the word that was read, and is lost otherwise (R114)
+  unfoldable pub triedIn : ℕ → ℕ → Row → ℕ → Process → ℕ → ℕ → Turn
+  triedIn p t row now r seen readAt =
+      let says = swapSays (kindOf row) (valueIn b seen) in
+      cond (eqb now seen)
+      (Swaps (with-status (Busy A5 seen readAt t (Is says)) r) (swappedIn b p (newOf row (valueIn b seen)) seen) says)
+      (Quiet (with-status (lostBy (kindOf row) seen readAt t) r))
+
+  -- A5: the answer is stored (R115). The log has a successful swap already (R164); a read and a value other than old enter it with the position of
+  -- their A1 (R165, R166), and a lost swap with that of the swap that beat it (R167)
+  unfoldable pub storingIn : Row → Process → ℕ → ℕ → ℕ → Maybe → Turn
+  storingIn row next seen readAt triedAt None = Quiet next
+  storingIn row next seen readAt triedAt (Is True) = Quiet next
+  storingIn row next seen readAt triedAt (Is (Value v)) = Logs next readAt (Value v)
+  storingIn row next seen readAt triedAt (Is False) = cond (eqb (valueIn b seen) (row .old)) (Loses next readAt triedAt) (Logs next readAt False)
+
+  -- process p at position t, in the midst of work on a row whose word is `now`
+  unfoldable pub decideIn : Row → ℕ → ℕ → ℕ → Process → Stage → ℕ → ℕ → ℕ → Maybe → Turn
+  decideIn row p t now r A1 seen readAt triedAt answer = Quiet (with-status (afterReadIn row now t) r)
+  decideIn row p t now r A2 seen readAt triedAt answer = Quiet (with-kept (Busy A3 seen readAt triedAt answer) (not (bitIn b p seen)) r)
+  decideIn row p t now r A3 seen readAt triedAt answer = Quiet (with-checkpoint (Busy A4 seen readAt triedAt answer) true r)
+  decideIn row p t now r A4 seen readAt triedAt answer = triedIn p t row now r seen readAt
+  decideIn row p t now r A5 seen readAt triedAt answer = storingIn row (with-stored (Busy A6 seen readAt triedAt answer) answer r) seen readAt triedAt answer
+  decideIn row p t now r A6 seen readAt triedAt answer = Replies (closed r) answer
+  decideIn row p t now r V1 seen readAt triedAt answer = Quiet (with-status (Busy (recovered (r .stored)) seen readAt triedAt answer) r)
+  decideIn row p t now r V2 seen readAt triedAt answer = Quiet (with-status (Busy (cond (r .checkpoint) V3 V6) seen readAt triedAt answer) r)
+  decideIn row p t now r V3 seen readAt triedAt answer = Quiet (with-status (Busy (cond (sameBit (bitIn b p now) (r .kept)) V4 V6) now readAt triedAt answer) r)
+  decideIn row p t now r V4 seen readAt triedAt answer = Quiet (with-stored (Busy V5 seen readAt triedAt answer) (Is (recalled row)) r)
+  decideIn row p t now r V5 seen readAt triedAt answer = Replies (closed r) (r .stored)
+  decideIn row p t now r V6 seen readAt triedAt answer = Replies (closed r) None
+
+  -- A step of a process that is down changes nothing (R140), nor does one of an idle process with no rows left (R141). A row is announced by three
+  -- stores, a step each: the stored answer is cleared (R101), the checkpoint becomes 0 (R102), the row is opened (R103). A process in the midst of
+  -- work has a row open: that is `row`, and `now` is its word. The process has `count` rows, the first of which is row number `first`
+  abbrev pub atWorkIn : Row → (p t now : ℕ) → Process → Opened → Stage → (seen readAt triedAt : ℕ) → Maybe → Turn
+  atWorkIn row p t now r Closed stage seen readAt triedAt answer = Still
+  atWorkIn row p t now r (Open k) stage seen readAt triedAt answer = decideIn row p t now r stage seen readAt triedAt answer
+
+  unfoldable pub stepTurnIn : Row → (p t now first count : ℕ) → Process → Status → Turn
+  stepTurnIn row p t now first count r Down = Still
+  stepTurnIn row p t now first count r Idle = cond (ltb (r .begun) count) (Quiet (with-stored N2 None r)) Still
+  stepTurnIn row p t now first count r N2 = Quiet (with-checkpoint N3 false r)
+  stepTurnIn row p t now first count r N3 = Quiet (started (first + r .begun) r)
+  stepTurnIn row p t now first count r (Busy stage seen readAt triedAt answer) = atWorkIn row p t now r (r .opened) stage seen readAt triedAt answer
+
+-- the same at the width of today
+abbrev pub readBy : Kind → (old word t : ℕ) → Status
+readBy = readByIn width
+
+abbrev pub afterRead : Row → ℕ → ℕ → Status
+afterRead = afterReadIn width
+
+abbrev pub tried : ℕ → ℕ → Row → ℕ → Process → ℕ → ℕ → Turn
+tried = triedIn width
+
+abbrev pub storing : Row → Process → ℕ → ℕ → ℕ → Maybe → Turn
+storing = storingIn width
+
+abbrev pub decide : Row → ℕ → ℕ → ℕ → Process → Stage → ℕ → ℕ → ℕ → Maybe → Turn
+decide = decideIn width
+
 abbrev pub atWork : Row → (p t now : ℕ) → Process → Opened → Stage → (seen readAt triedAt : ℕ) → Maybe → Turn
-atWork row p t now r Closed stage seen readAt triedAt answer = Still
-atWork row p t now r (Open k) stage seen readAt triedAt answer = decide row p t now r stage seen readAt triedAt answer
+atWork = atWorkIn width
 
-unfoldable pub stepTurn : Row → (p t now first count : ℕ) → Process → Status → Turn
-stepTurn row p t now first count r Down = Still
-stepTurn row p t now first count r Idle = cond (ltb (r .begun) count) (Quiet (with-stored N2 None r)) Still
-stepTurn row p t now first count r N2 = Quiet (with-checkpoint N3 false r)
-stepTurn row p t now first count r N3 = Quiet (started (first + r .begun) r)
-stepTurn row p t now first count r (Busy stage seen readAt triedAt answer) = atWork row p t now r (r .opened) stage seen readAt triedAt answer
+abbrev pub stepTurn : Row → (p t now first count : ℕ) → Process → Status → Turn
+stepTurn = stepTurnIn width
 
 pub working : (row : Row) (p t now : ℕ) (r : Process) (opened : Opened) (k : ℕ) (stage : Stage) (seen readAt triedAt : ℕ) (answer : Maybe) → opened ≡ Open k
     → atWork row p t now r opened stage seen readAt triedAt answer ≡ decide row p t now r stage seen readAt triedAt answer

@@ -13,7 +13,7 @@ use Rattle.engine.specs.declared.Standing.{Standing}
 use Rattle.engine.specs.declared.Part.{Part}
 use Rattle.machine.specs.Records.{nobody}
 use Rattle.machine.specs.Laws.{Sane}
-use Rattle.machine.specs.Machine.{after}
+use Rattle.machine.specs.Machine.{afterIn}
 use Rattle.engine.specs.Part.{Runnable, Runs, stateLent}
 use Rattle.run.specs.Parts.{part-all, table-part, lined-part, words-part}
 use Rattle.run.specs.Run.{roomOf}
@@ -65,7 +65,7 @@ module _ (h : Header) (f : List ℕ) (l : Lent) (k : Stroke) (ft : Fit h f (l .p
     -- and what it leaves is what the key comes to
     pub went : (r : Standing) (words log answers : List ℕ) → Runs (partOf stride n P) (take (length f - rows-at) (drop rows-at f)) (k .byte ∷ []) (l .words) (l .log) (l .answers) r words log answers
         → Leaves (carried h f l k) (Went (r .log) (r .answers)) (r .processes) words log answers
-    unfolding stepped stateOf after stateLent
+    unfolding stepped stateOf afterIn stateLent
     went r words log answers left =
         let m = rw (part-all f rows-at, z, e, q, here, table-part h f) at left in
         record {

@@ -23,7 +23,7 @@ use Rattle.machine.specs.declared.Status.{Status}
 use Rattle.machine.specs.Turn.{Turn, Still, Quiet, Swaps, Logs, Loses, Replies}
 use Rattle.machine.specs.Records.{fresh, nobody, rowOpen}
 use Rattle.machine.specs.Laws.{getD-either}
-use Rattle.machine.specs.Machine.{State, effectOf, wordsAfter, turn, apply, applied, procAt, act, step}
+use Rattle.machine.specs.Machine.{State, effectOf, wordsAfter, turn, turnIn, apply, applied, procAt, act, actIn, step, stepIn}
 use Rattle.machine.specs.Steps.{stepTurn}
 use Rattle.machine.specs.OneByte as one
 use Rattle.run.specs.Run.{roomOf}
@@ -49,7 +49,7 @@ word-stays rows log p t k w (Replies next said) words j n = refl
 
 turn-word : (rows : List Row) (p t : ℕ) (words : List ℕ) (log : List Entry) (r : Process) (status : Status) (j : ℕ) → j ≢ rowNumbered rows (rowOpen (r .opened)) .word
     → getD (wordsAfter (turn rows p t words log r status .effect) words) j 0 ≡ getD words j 0
-unfolding turn
+unfolding turnIn
 turn-word rows p t words log r status j n =
     let row = rowNumbered rows (rowOpen (r .opened)) in
     word-stays rows log p t (rowOpen (r .opened)) (row .word) (stepTurn row p t (getD words (row .word) 0) (first rows p) (count rows p) r status) words j n
@@ -119,7 +119,7 @@ module _ (h : Header) (f : List ℕ) (records : List Process) (words log answers
     mine i = getD-take P records (named (k .byte)) fresh i ∙ getD-either records (named (k .byte)) fresh nobody (omega arith)
 
     other-word : (w : ℕ) → w ≢ rowNumbered (tableOf h f) (rowOpen (getD records (named (k .byte)) nobody .opened)) .word → getD (stepped h f l k .words) w 0 ≡ getD words w 0
-    unfolding stepped stateOf step act applied apply
+    unfolding stepped stateOf stepIn actIn applied apply
     other-word w n = go (action (k .byte)) refl
       where
         go : (a : Action) → action (k .byte) ≡ a → getD (act (tableOf h f) (k .position) a (named (k .byte)) s .words) w 0 ≡ getD words w 0

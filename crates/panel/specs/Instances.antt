@@ -25,8 +25,8 @@ use Rattle.rows.specs.Entries.{isSwapped}
 use Rattle.rows.specs.Log.{onePast, place, insert, isSwap, firstSwap}
 use Rattle.rows.specs.Buffers.{five, entryAt, infront}
 use Rattle.machine.specs.Records.{fresh}
-use Rattle.machine.specs.Steps.{spoken, tried, storing, decide, stepTurn}
-use Rattle.machine.specs.Machine.{turn, apply, applied, procAt, act, step}
+use Rattle.machine.specs.Steps.{spoken, triedIn, storingIn, decideIn, stepTurnIn}
+use Rattle.machine.specs.Machine.{turnIn, apply, applied, procAt, actIn, stepIn}
 use Rattle.panel.specs.declared.Stroke.{Stroke}
 use Rattle.panel.specs.declared.Outcome.{Outcome}
 use Rattle.panel.specs.declared.Outcome.the-variants.{Went, Refused}
@@ -159,5 +159,5 @@ pub f-stepped :
     × (ended .words ≡ (9 + 2 * 65536) ∷ [])
     × (ended .log ≡ 10 ∷ 1 ∷ 1 ∷ 1 ∷ 0 ∷ 10 ∷ 0 ∷ 0 ∷ 0 ∷ 0 ∷ replicate 70 99)
     × (ended .answers ≡ 15 ∷ 0 ∷ 0 ∷ 0 ∷ 0 ∷ replicate 75 99)
-unfolding keyed pressed verdictOf judged fileRefusal headerIn u16At marked headSize wordSize rowSize newPlace numberAt rowAt badField sameFields badByte firstBadField firstRow firstLaterRow firstByte tableOf rowsFrom anyImpossible impossible misplaced misdone rowNumbered first count stepping stepped stateOf names bitOf turnOf valueIn flipsIn bitIn swappedIn isSwapped onePast place insert isSwap firstSwap five entryAt infront spoken tried storing decide stepTurn turn apply applied procAt act step
+unfolding keyed pressed verdictOf judged fileRefusal headerIn u16At marked headSize wordSize rowSize newPlace numberAt rowAt badField sameFields badByte firstBadField firstRow firstLaterRow firstByte tableOf rowsFrom anyImpossible impossible misplaced misdone rowNumbered first count stepping stepped stateOf names bitOf turnOf valueIn flipsIn bitIn swappedIn isSwapped onePast place insert isSwap firstSwap five entryAt infront spoken triedIn storingIn decideIn stepTurnIn turnIn apply applied procAt actIn stepIn
 f-stepped = (refl, refl, refl, refl)

@@ -28,9 +28,9 @@ use Rattle.machine.specs.declared.Status.{Status}
 use Rattle.machine.specs.declared.Status.the-variants.{Down, Idle, N2, N3, Busy}
 use Rattle.machine.specs.Turn.{Still, Quiet, Logs, Loses}
 use Rattle.machine.specs.Records.{fresh, with-status, with-stored, closed, crashed, waked, wokenUp, started, rowOpen}
-use Rattle.machine.specs.Steps.{decide, readBy, afterRead, swapSays, tried, recalled, storing, atWork, stepTurn, recovered, sameBit}
+use Rattle.machine.specs.Steps.{decide, decideIn, readBy, afterRead, swapSays, tried, recalled, storing, storingIn, atWork, stepTurn, stepTurnIn, recovered, sameBit}
 use Rattle.machine.specs.KindLaws.{either, tried-leads}
-use Rattle.machine.specs.Machine.{State, processOf, turn, procAt, step, begin}
+use Rattle.machine.specs.Machine.{State, processOf, turn, turnIn, procAt, step, begin}
 use Rattle.machine.specs.Laws.{fresh-at, closed-open, each-step}
 use Rattle.panel.specs.Possible.{readHas, hasStage, canSay, hasAnswer, missing, notLast, openWhile, noneAt, noneLeft, noAnswer, wrongKind, misplaced, misdone, impossible}
 
@@ -130,7 +130,7 @@ module _ (rows : List Row) (p : ℕ) where
     }
 
     next-is : (next : Process) (seen readAt triedAt : ℕ) (answer : Maybe) → processOf r (storing row next seen readAt triedAt answer) ≡ next
-    unfolding storing
+    unfolding storingIn
     next-is next seen readAt triedAt None = refl
     next-is next seen readAt triedAt (Is True) = refl
     next-is next seen readAt triedAt (Is (Value v)) = refl
@@ -162,7 +162,7 @@ module _ (rows : List Row) (p : ℕ) where
 
     lives-decide : (stage : Stage) (seen readAt triedAt : ℕ) (answer : Maybe) → hasStage (kindOf row) stage ≡ true → hasAnswer (kindOf row) answer ≡ true → missing stage answer (r .stored) ≡ false
         → Lives rows p (processOf r (decide row p t now r stage seen readAt triedAt answer))
-    unfolding decide
+    unfolding decideIn
     lives-decide A1 seen readAt triedAt answer s a m = lives-read
     lives-decide A2 seen readAt triedAt answer s a m = record { few = h .few; opened-last = h .opened-last; at = at-work (r .stored) A3 answer (has-all (kindOf row) A2 refl s A3) a refl }
     lives-decide A3 seen readAt triedAt answer s a m = record {
@@ -183,7 +183,7 @@ module _ (rows : List Row) (p : ℕ) where
 
   -- a step, whatever the record's status
   pub lives-turn : (t : ℕ) (words : List ℕ) (log : List Entry) (r : Process) → Lives rows p r → Lives rows p (turn rows p t words log r (r .status) .process)
-  unfolding turn stepTurn
+  unfolding turnIn stepTurnIn
   lives-turn t words log r h = go (r .status) refl (h .at)
     where
       start : (c : Bool) → ltb (r .begun) (count rows p) ≡ c → r .opened ≡ Closed → Lives rows p (processOf r (cond c (Quiet (with-stored N2 None r)) Still))

@@ -17,7 +17,7 @@ use Rattle.machine.specs.declared.Status.{Status}
 use Rattle.machine.specs.Turn.{Turn, Still, Quiet, Swaps, Logs, Loses, Replies}
 use Rattle.machine.specs.Records.{rowOpen, crashed}
 use Rattle.machine.specs.Steps.{stepTurn}
-use Rattle.machine.specs.Machine.{State, Effect, quiet, swaps, logs, replies, processOf, effectOf, moveOf, turn, wordsAfter, logAfter, answersAfter, apply, applied, procAt, act, step}
+use Rattle.machine.specs.Machine.{State, Effect, quiet, swaps, logs, replies, processOf, effectOf, moveOf, turn, turnIn, wordsAfter, logAfter, answersAfter, apply, applied, procAt, act, actIn, step, stepIn}
 
 -- with these words behind its own
 abbrev pub longer : List ℕ → State → State
@@ -34,14 +34,14 @@ words-longer rows log p t k w (Replies next said) words more h = refl
 
 module _ (rows : List Row) (more : List ℕ) (t : ℕ) (s : State) (inside : (k : ℕ) → rowNumbered rows k .word < length (s .words)) where
   turn-longer : (p : ℕ) (r : Process) (status : Status) → turn rows p t (s .words ++ more) (s .log) r status ≡ turn rows p t (s .words) (s .log) r status
-  unfolding turn
+  unfolding turnIn
   turn-longer p r status =
       let row = rowNumbered rows (rowOpen (r .opened)) in
       ap (λ now. moveOf rows (s .log) p t (rowOpen (r .opened)) (row .word) r (stepTurn row p t now (first rows p) (count rows p) r status))
       (List·getD-append (s .words) more 0 (row .word) (inside (rowOpen (r .opened))))
 
   applied-longer : (p : ℕ) (r : Process) (status : Status) → let m = turn rows p t (s .words) (s .log) r status in applied p m (longer more s) ≡ longer more (applied p m s)
-  unfolding turn applied apply
+  unfolding turnIn applied apply
   applied-longer p r status =
       let k = rowOpen (r .opened) in
       let row = rowNumbered rows k in
@@ -50,7 +50,7 @@ module _ (rows : List Row) (more : List ℕ) (t : ℕ) (s : State) (inside : (k 
       (words-longer rows (s .log) p t k (row .word) u (s .words) more (inside k))
 
   act-longer : (a : Action) (p : ℕ) → act rows t a p (longer more s) ≡ longer more (act rows t a p s)
-  unfolding act procAt applied apply
+  unfolding actIn procAt applied apply
   act-longer steps p = ap (λ m. applied p m (longer more s)) (turn-longer p (procAt p s) (procAt p s .status)) ∙ applied-longer p (procAt p s) (procAt p s .status)
   act-longer crashes p = refl
   act-longer wakes p = refl
@@ -58,7 +58,7 @@ module _ (rows : List Row) (more : List ℕ) (t : ℕ) (s : State) (inside : (k 
   act-longer idles p = refl
 
   pub step-longer : (byte : ℕ) → step rows t byte (longer more s) ≡ longer more (step rows t byte s)
-  unfolding step
+  unfolding stepIn
   step-longer byte = act-longer (action byte) (named byte)
 
 -- how much there is after a byte
@@ -85,7 +85,7 @@ grows-apply (replies e) ps s h =
     record { words = refl; processes = h; log-more = omega arith; log-one = omega arith; answers-more = omega arith; answers-one = omega arith; answers-kept = take-append-seam (s .answers) (e ∷ []) }
 
 grows-act : (rows : List Row) (t : ℕ) (a : Action) (p : ℕ) (s : State) → Grows s (act rows t a p s)
-unfolding act applied
+unfolding actIn applied
 grows-act rows t steps p s = grows-apply _ _ s (length-set (s .processes) p _)
 grows-act rows t crashes p s = grows-apply _ _ s (length-set (s .processes) p _)
 grows-act rows t wakes p s = grows-apply _ _ s (length-set (s .processes) p _)
@@ -93,5 +93,5 @@ grows-act rows t crashesAll p s = grows-apply _ _ s (length-map (s .processes) c
 grows-act rows t idles p s = record { words = refl; processes = refl; log-more = omega arith; log-one = omega arith; answers-more = omega arith; answers-one = omega arith; answers-kept = take-length (s .answers) }
 
 pub grows : (rows : List Row) (t byte : ℕ) (s : State) → Grows s (step rows t byte s)
-unfolding step
+unfolding stepIn
 grows rows t byte s = grows-act rows t (action byte) (named byte) s

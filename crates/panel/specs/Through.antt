@@ -23,7 +23,7 @@ use Rattle.rows.specs.BufferLaws.{rows-back, again, length-infront, length-flat
 use Rattle.machine.specs.declared.Process.{Process}
 use Rattle.machine.specs.Records.{fresh, nobody}
 use Rattle.machine.specs.Laws.{getD-either}
-use Rattle.machine.specs.Machine.{State, procAt, step, after, begin}
+use Rattle.machine.specs.Machine.{State, procAt, step, after, afterIn, begin}
 use Rattle.run.specs.declared.Outcome.{Outcome as RunOutcome}
 use Rattle.run.specs.declared.Outcome.the-variants.{Ran}
 use Rattle.run.specs.Run.{endOf, roomOf, EndsAs, Ends}
@@ -193,7 +193,7 @@ module _ (f words log answers : List ℕ) (h : Header) (fine : refusalOf f (room
 
   -- key after key
   go-through : (bytes : List ℕ) (t : ℕ) (s : State) → Good t s → t + length bytes ≤ h .steps → ((i : ℕ) → i < length bytes → LawfulByte P (getD bytes i 0)) → stepping f t bytes (held s) ≡ held (after rows t bytes s)
-  unfolding stepping after
+  unfolding stepping afterIn
   go-through [] t s g few fit = refl
   go-through (byte ∷ bytes) t s g few fit =
       ap (stepping f (suc t) bytes) (one-key t byte s g (omega arith) (fit 0 (omega arith)))

@@ -20,7 +20,7 @@ use Rattle.engine.specs.declared.Standing.{Standing}
 use Rattle.engine.specs.declared.Part.{Part}
 use Rattle.machine.specs.Records.{fresh, nobody}
 use Rattle.machine.specs.Laws.{Sane, sane-idle, fresh-at, closed-open, getD-either}
-use Rattle.machine.specs.Machine.{State, Effect, quiet, swaps, logs, replies, wordsAfter, turn, apply, applied, procAt, act, step, after, begin}
+use Rattle.machine.specs.Machine.{State, Effect, quiet, swaps, logs, replies, wordsAfter, turn, apply, applied, procAt, act, actIn, step, stepIn, after, afterIn, begin}
 use Rattle.run.specs.declared.Outcome.the-variants.{Ran}
 use Rattle.engine.specs.Part.{Holds, Runnable, Runs, stateLent}
 use Rattle.run.specs.Run.{endOf, roomOf, EndsAs}
@@ -35,7 +35,7 @@ words-same (logs e) words = refl
 words-same (replies e) words = refl
 
 act-length : (rows : List Row) (t : ℕ) (a : Action) (p : ℕ) (s : State) → length (act rows t a p s .words) ≡ length (s .words)
-unfolding act applied apply
+unfolding actIn applied apply
 act-length rows t steps p s = words-same (turn rows p t (s .words) (s .log) (procAt p s) (procAt p s .status) .effect) (s .words)
 act-length rows t crashes p s = refl
 act-length rows t wakes p s = refl
@@ -43,7 +43,7 @@ act-length rows t crashesAll p s = refl
 act-length rows t idles p s = refl
 
 words-length : (rows : List Row) (t : ℕ) (bytes : List ℕ) (s : State) → length (after rows t bytes s .words) ≡ length (s .words)
-unfolding after step
+unfolding afterIn stepIn
 words-length rows t [] s = refl
 words-length rows t (b ∷ bytes) s = words-length rows (suc t) bytes (step rows t b s) ∙ act-length rows t (action b) (named b) s
 
