@@ -17,7 +17,7 @@ use Rattle.machine.specs.declared.Stage.the-variants.{A2, A5}
 use Rattle.machine.specs.declared.Status.{Status}
 use Rattle.machine.specs.declared.Status.the-variants.{Busy}
 use Rattle.machine.specs.Steps.{spoken}
-use Rattle.machine.specs.Machine.{State, procAt, step, after, begin}
+use Rattle.machine.specs.Machine.{State, procAt, step, after, begin, afterIn}
 use Rattle.replay.specs.Lists.{Found}
 use Rattle.demand3.specs.Statement.{Firmware, of, ownerOf, through, StillOpen, stateAfter, Demand3}
 

@@ -19,7 +19,7 @@ use Rattle.rows.specs.declared.Entry.{Entry}
 use Rattle.rows.specs.Entries.{said, isSwapped}
 use Rattle.machine.specs.declared.Opened.{Opened}
 use Rattle.machine.specs.declared.Opened.the-variants.{Closed, Open}
-use Rattle.machine.specs.Machine.{State, quiet, swaps, logs, replies, procAt, step, after, begin}
+use Rattle.machine.specs.Machine.{State, quiet, swaps, logs, replies, procAt, step, after, begin, afterIn}
 use Rattle.machine.specs.Laws.{after-join, after-snoc, closed-open}
 use Rattle.replay.specs.Lists.{All, all-put, all-join, all-right, keep-put-yes, append-empty-right, Found, keep-found}
 use Rattle.replay.specs.Logs.{Put, put}

@@ -32,9 +32,9 @@ use Rattle.machine.specs.declared.Status.{Status}
 use Rattle.machine.specs.declared.Status.the-variants.{Down, Idle, N2, N3, Busy}
 use Rattle.machine.specs.Turn.{Turn, Still, Quiet, Swaps, Logs, Loses}
 use Rattle.machine.specs.Records.{fresh, crashed, waked, wokenUp, with-status, with-stored, rowOpen}
-use Rattle.machine.specs.Steps.{spoken, entry, readBy, swapSays, lostBy, tried, storing, recovered, sameBit, decide, atWork, stepTurn}
+use Rattle.machine.specs.Steps.{spoken, entry, readBy, swapSays, lostBy, tried, storing, recovered, sameBit, decide, atWork, stepTurn, triedIn, storingIn, decideIn, stepTurnIn}
 use Rattle.machine.specs.KindLaws.{says-swapped}
-use Rattle.machine.specs.Machine.{State, quiet, swaps, logs, replies, effectOf, processOf, logAfter, procAt, apply, applied, turn, act, step, after, begin}
+use Rattle.machine.specs.Machine.{State, quiet, swaps, logs, replies, effectOf, processOf, logAfter, procAt, apply, applied, turn, act, step, after, begin, turnIn, actIn, stepIn, afterIn}
 use Rattle.machine.specs.Laws.{fresh-at}
 use Rattle.replay.specs.Lists.{All, all-map, keep, keep-join, keep-none, keep-put-no, Found, keep-found}
 use Rattle.replay.specs.Logs.{Put, put, insert-last}
@@ -86,7 +86,7 @@ module _ (rows : List Row) where
 
   became : (Q : Process → Type 0) (n b p : ℕ) (s : State) → Q (procAt p s) → Q (turn rows p n (s .words) (s .log) (procAt p s) (procAt p s .status) .process)
       → Q (crashed (procAt p s)) → Q (waked (procAt p s) (procAt p s .status)) → Q (procAt p (step rows n b s))
-  unfolding step act applied apply procAt
+  unfolding stepIn actIn applied apply procAt
   became Q n b p s h t c w = go (action b)
     where
       go : (a : Action) → Q (getD (act rows n a (named b) s .processes) p fresh)
@@ -98,7 +98,7 @@ module _ (rows : List Row) where
 
   -- and of the log: nothing, or what the step of the process that it names does
   log-became : (Q : List Entry → Type 0) (n b : ℕ) (s : State) → Q (s .log) → Q (logAfter (turn rows (named b) n (s .words) (s .log) (procAt (named b) s) (procAt (named b) s .status) .effect) (s .log)) → Q (step rows n b s .log)
-  unfolding step act applied apply
+  unfolding stepIn actIn applied apply
   log-became Q n b s h t = go (action b)
     where
       go : (a : Action) → Q (act rows n a (named b) s .log)
@@ -193,7 +193,7 @@ module _ (rows : List Row) (words : List ℕ) (P : ℕ) (plan : Plan P (length w
     hist-stage : (word : ℕ) (stage : Stage) (x a ta : ℕ) (answer : Maybe) → Kept p k stage x a answer
         → procAt p (now (suc n)) ≡ processOf r (decide (rowNumbered rows k) p n word r stage x a ta answer)
         → Hist p (processOf r (decide (rowNumbered rows k) p n word r stage x a ta answer) .opened) (processOf r (decide (rowNumbered rows k) p n word r stage x a ta answer) .status)
-    unfolding decide tried storing
+    unfolding decideIn triedIn storingIn
     hist-stage word A1 x a ta answer h e = hist-A1 word (kindOf (rowNumbered rows k)) e
     hist-stage word A2 x a ta answer h e = held A3 x a ta answer h
     hist-stage word A3 x a ta answer h e = held A4 x a ta answer h
@@ -213,7 +213,7 @@ module _ (rows : List Row) (words : List ℕ) (P : ℕ) (plan : Plan P (length w
   -- a step
   hist-turn : (n p : ℕ) (r : Process) (ws : List ℕ) (log : List Entry) → Hist p (r .opened) (r .status) → (status : Status) → r .status ≡ status → procAt p (now (suc n)) ≡ turn rows p n ws log r status .process
       → Hist p (turn rows p n ws log r status .process .opened) (turn rows p n ws log r status .process .status)
-  unfolding turn stepTurn
+  unfolding turnIn stepTurnIn
   hist-turn n p r ws log h Down e b = h
   hist-turn n p r ws log h Idle e b = go (ltb (r .begun) (count rows p))
     where
@@ -243,7 +243,7 @@ module _ (rows : List Row) (words : List ℕ) (P : ℕ) (plan : Plan P (length w
   hist-waked p r h (Busy stage x a ta answer) = h
 
   first-state : (p : ℕ) → Hist p (procAt p (now 0) .opened) (procAt p (now 0) .status)
-  unfolding after begin procAt
+  unfolding afterIn begin procAt
   first-state p = rw (fresh-at P p) tt
 
   hist : (n : ℕ) → n ≤ length schedule → (p : ℕ) → Hist p (procAt p (now n) .opened) (procAt p (now n) .status)
@@ -343,7 +343,7 @@ module _ (rows : List Row) (words : List ℕ) (P : ℕ) (plan : Plan P (length w
 
       plain-stage : (word : ℕ) (stage : Stage) (x a ta : ℕ) (answer : Maybe) → r .status ≡ Busy stage x a ta answer
           → All (Plain (suc n)) (logAfter (effectOf rows (now n .log) p n k (rowNumbered rows k .word) (decide (rowNumbered rows k) p n word r stage x a ta answer)) (now n .log))
-      unfolding decide tried storing
+      unfolding decideIn triedIn storingIn
       plain-stage word A1 x a ta answer is = v
       plain-stage word A2 x a ta answer is = v
       plain-stage word A3 x a ta answer is = v
@@ -363,7 +363,7 @@ module _ (rows : List Row) (words : List ℕ) (P : ℕ) (plan : Plan P (length w
       plain-stage word V6 x a ta answer is = v
 
     plain-turn : (p : ℕ) (r : Process) → procAt p (now n) ≡ r → (status : Status) → r .status ≡ status → All (Plain (suc n)) (logAfter (turn rows p n (now n .words) (now n .log) r status .effect) (now n .log))
-    unfolding turn stepTurn
+    unfolding turnIn stepTurnIn
     plain-turn p r same Down is = v
     plain-turn p r same Idle is = go (ltb (r .begun) (count rows p))
       where
@@ -380,7 +380,7 @@ module _ (rows : List Row) (words : List ℕ) (P : ℕ) (plan : Plan P (length w
         go (Open k) q = plain-stage p k r same q (getD (now n .words) (rowNumbered rows k .word) 0) stage x a ta answer is
 
   plain : (n : ℕ) → n ≤ length schedule → All (Plain n) (now n .log)
-  unfolding after begin
+  unfolding afterIn begin
   plain = along rows words P plan schedule (λ n. All (Plain n) (now n .log)) tt each
     where
       each : (n : ℕ) → n < length schedule → All (Plain n) (now n .log) → All (Plain (suc n)) (now (suc n) .log)

@@ -227,7 +227,7 @@ pub read : State
 read = endState reading readSchedule
 
 logged-first : of 0 (read .log) ≡ record { position = 0; process = 0; row = 0; verdict = 3; value = 7 } ∷ []
-unfolding read readRows readSchedule atItsTry keptPosition turnBy actBy stepBy through of rowNumbered first count valueIn bitIn swappedIn bitOf turnOf flipsIn isSwapped onePast place insert spoken tried storing decide stepTurn applied apply procAt turn act step after begin
+unfolding read readRows readSchedule atItsTry keptPosition turnBy actBy stepBy through of rowNumbered first count valueIn bitIn swappedIn bitOf turnOf flipsIn isSwapped onePast place insert spoken triedIn storingIn decideIn stepTurnIn applied apply procAt turnIn actIn stepIn afterIn begin
 logged-first = refl
 
 -- no row was open when the first byte came

@@ -32,9 +32,9 @@ use Rattle.machine.specs.declared.Status.{Status}
 use Rattle.machine.specs.declared.Status.the-variants.{Down, Idle, N2, N3, Busy}
 use Rattle.machine.specs.Records.{fresh, with-stored, rowOpen}
 use Rattle.machine.specs.Turn.{Turn, Still, Quiet, Swaps, Logs, Loses}
-use Rattle.machine.specs.Steps.{spoken, entry, tried, storing, decide, atWork, stepTurn}
+use Rattle.machine.specs.Steps.{spoken, entry, tried, storing, decide, atWork, stepTurn, triedIn, storingIn, decideIn, stepTurnIn}
 use Rattle.machine.specs.KindLaws.{either, says-swapped}
-use Rattle.machine.specs.Machine.{State, effectOf, wordsAfter, logAfter, turn, apply, applied, procAt, act, step, after, begin}
+use Rattle.machine.specs.Machine.{State, effectOf, wordsAfter, logAfter, turn, apply, applied, procAt, act, step, after, begin, turnIn, actIn, stepIn, afterIn}
 use Rattle.machine.specs.Laws.{closed-open}
 use Rattle.machine.specs.Limits.{size}
 
@@ -326,7 +326,7 @@ module _ (rows : List Row) (fits : Fitting rows) (q w : ℕ) (start : Bool) wher
       go false a false y = same (counted ∙ ap₂ chosen a y) (ap (bit q) (getD-set-other words i w x 0 (λ z. eqb-false i w y (sym z))))
 
   recounted : (t : ℕ) (bytes : List ℕ) (s : State) → Recounted (s .words) (s .log) → Recounted (after rows t bytes s .words) (after rows t bytes s .log)
-  unfolding after
+  unfolding afterIn
   recounted t [] s h = h
   recounted t (byte ∷ bytes) s h =
       recounted (suc t) bytes (step rows t byte s) (recount (named byte) (procAt (named byte) s) (s .words) (step rows t byte s .words) (s .log) (step rows t byte s .log) (leaves rows t byte s) h)
