@@ -47,7 +47,7 @@ pub struct Part {
 pub fn run_bytes(
     table: &[u8],
     schedule: &[u8],
-    words: &mut [u32],
+    words: &mut [u64],
     log: &mut [u32],
     answers: &mut [u32],
     part: Part,

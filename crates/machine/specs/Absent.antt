@@ -140,7 +140,7 @@ turnedBy (suc n) b = turnedBy n (not b)
 abbrev pub FittingIn : (b : ℕ) → List Row → Type 0
 FittingIn b rows = (k v : ℕ) → newOf (rowNumbered rows k) v < 2 ^ b
 
--- old and new have two bytes each (R10): what a swap puts in has no more bits than a value
+-- what a swap puts in has no more bits than a value (R10, R14)
 abbrev pub Fitting : List Row → Type 0
 Fitting = FittingIn width
 

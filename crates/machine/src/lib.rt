@@ -67,7 +67,7 @@ pub enum Status {
     N3,
     Busy {
         stage: Stage,
-        word: u32,
+        word: u64,
         read_at: u16,
         tried_at: u16,
         answer: Maybe,
@@ -88,7 +88,7 @@ pub struct Process {
 pub struct Work {
     pub process: u8,
     pub row: u16,
-    pub seen: u32,
+    pub seen: u64,
     pub read_at: u16,
     pub tried_at: u16,
     pub answer: Maybe,

@@ -13,7 +13,7 @@ ghost use Rattle.machine.specs.Reach.{Reach, Looked};
 ghost use Rattle.machine.specs.Promises.{WordNow, WordStored, AfterRead, FalseAt, Enterable, Entered};
 
 // The word that row k is on, as it stands now.
-pub fn word_now(table: &[u8], stride: usize, k: usize, words: &[u32]) -> u32
+pub fn word_now(table: &[u8], stride: usize, k: usize, words: &[u64]) -> u64
     requires { ⌜ Reach stride (now table) k (now words) ⌝ }
     ensures { λ r. ⌜ WordNow stride (now (table .entry)) k (now (words .entry)) r ⌝ }
 {
@@ -22,7 +22,7 @@ pub fn word_now(table: &[u8], stride: usize, k: usize, words: &[u32]) -> u32
 }
 
 // Puts a number into the word that row k is on.
-pub fn store_word(table: &[u8], stride: usize, k: usize, words: &mut [u32], new: u32)
+pub fn store_word(table: &[u8], stride: usize, k: usize, words: &mut [u64], new: u64)
     requires { ⌜ Reach stride (now table) k (now words) ⌝ }
     ensures { λ _. ⌜ WordStored stride (now (table .entry)) k (now (words .entry)) new (now (words .exit)) ⌝ }
 {
@@ -31,7 +31,7 @@ pub fn store_word(table: &[u8], stride: usize, k: usize, words: &mut [u32], new:
 }
 
 // A1, once the word is read at this position: a read is done, and so is a compare that meets another value (R111).
-pub fn after_read(row: Row, word: u32, position: u16) -> Status
+pub fn after_read(row: Row, word: u64, position: u16) -> Status
     ensures { λ r. ⌜ AfterRead row word position r ⌝ }
 {
     let kind = runfile::kind_of(row);
@@ -46,7 +46,7 @@ pub fn after_read(row: Row, word: u32, position: u16) -> Status
             }
         }
         Kind::Compare => {
-            if word::value_of(word) == row.old as u32 {
+            if word::value_of(word) == row.old {
                 return Status::Busy {
                     stage: Stage::A2,
                     word,
@@ -76,7 +76,7 @@ fn false_at(table: &[u8], stride: usize, n: usize, log: &[u32], log_rows: usize,
     let row = runfile::row_at(table, stride, k);
     let read_at = work.read_at as u32;
     let tried_at = work.tried_at as u32;
-    if word::value_of(work.seen) == row.old as u32 {
+    if word::value_of(work.seen) == row.old {
         let sought = Sought {
             word: row.word,
             after: read_at,

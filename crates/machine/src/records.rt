@@ -52,7 +52,7 @@ pub fn open_row(opened: Opened) -> u16
 }
 
 // In the midst of work.
-pub fn busy(stage: Stage, word: u32, read_at: u16, tried_at: u16, answer: Maybe) -> Status
+pub fn busy(stage: Stage, word: u64, read_at: u16, tried_at: u16, answer: Maybe) -> Status
     ensures { λ r. ⌜ AtWork stage word «read_at» «tried_at» answer r ⌝ }
 {
     Status::Busy {

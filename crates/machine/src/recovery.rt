@@ -22,7 +22,7 @@ pub fn by_checkpoint(checkpoint: bool) -> Stage
 }
 
 // V3: by whether the own flip bit is the kept bit (R123).
-pub fn by_bit(me: u8, now: u32, kept: bool) -> Stage
+pub fn by_bit(me: u8, now: u64, kept: bool) -> Stage
     requires { ⌜ me < 16 ⌝ }
     ensures { λ r. ⌜ ByBit me now kept r ⌝ }
 {

@@ -27,7 +27,7 @@ use Rattle.runfile.specs.Layout.{marked, headerIn, rowsStart, strideOf, 
 use Rattle.runfile.specs.Fields.{fields, fieldAt, orderOf, ordered, order-at, rising}
 use Rattle.runfile.specs.Actions.{crashAll, none, actionOf}
 use Rattle.runfile.specs.Kinds.{kindOf}
-use Rattle.runfile.specs.Refusals.{placeOf, outOfRange, zeroOld, zeroNew, badNumber, badField, badIn, sameBy, sameFields, badAction, badByte, foundIf, firstOffender, badFieldIn, firstBadField, firstRow, firstLaterRow, firstByte, whole, found, orElse, firstOf, inOrder, refusalOf}
+use Rattle.runfile.specs.Refusals.{placeOf, outOfRange, zeroOld, zeroNew, badField, badIn, sameBy, sameFields, badAction, badByte, foundIf, firstOffender, badFieldIn, firstBadField, firstRow, firstLaterRow, firstByte, whole, found, orElse, firstOf, inOrder, refusalOf}
 use Rattle.runfile.specs.Table.{Marked, BadField, BadIn, ZeroOld, ZeroNew, Same, SameFields, FirstBadField, BadByte, First, rowOf, zeroByteOf, byteOf, Given, Earlier}
 use Rattle.runfile.specs.Table as table
 use Rattle.runfile.specs.Lawful.{LawfulByte, of-one, of-all, has-mark, in-range, not-both, no-bad-field, lawful-byte, high-action, lawful}
@@ -89,6 +89,12 @@ both-true : (a b : Bool) → (a && b) ≡ true → (a ≡ true) × (b ≡ true)
 both-true true b e = (refl, e)
 both-true false b e = absurd (let y : _≡_ {A = ℕ} 0 1 = cc in omega arith)
 
+both : {s t : Bool} {A B : Type 0} → Tells s A → Tells t B → Tells (s && t) (A × B)
+both {s} {t} {A} a b = record {
+  true-is = λ e. let r = both-true s t e in (a .true-is (r .0), b .true-is (r .1));
+  false-is = λ e h. b .false-is (not-both s t e (said-true s A a (h .0))) (h .1);
+}
+
 tells-mark : (f : List ℕ) → Tells (not (marked f)) (Marked f → ⊥)
 unfolding marked
 tells-mark f = record {
@@ -120,21 +126,14 @@ tells-new : (kind : Kind) → Tells (zeroNew kind) (ZeroNew kind)
 tells-new Read = always
 tells-new Compare = never
 
--- old or new, where the kind must have 0 there (R49e, R49f)
-tells-number : (must : Bool) (Must : Type 0) (n : ℕ) → Tells must Must → Tells (badNumber must n) (Must × (n ≡ 0 → ⊥))
-tells-number must Must n tells = record {
-  true-is = λ e. let b = both-true must (not (eqb n 0)) e in (tells .true-is (b .0), differs n 0 .true-is (b .1));
-  false-is = λ e h. differs n 0 .false-is (not-both must (not (eqb n 0)) e (said-true must Must tells (h .0))) (h .1);
-}
-
 tells-field : (h : Header) (row : Row) (z : ℕ) (x : Field) → Tells (badField h row z x) (BadField h row z x)
 unfolding badField
 tells-field h row z field.Process = at-least (h .processes) (row .process)
 tells-field h row z field.Kind = less 1 (row .kind)
 tells-field h row z field.Word = at-least (h .words) (row .word)
 tells-field h row z field.ZeroByte = differs z 0
-tells-field h row z field.Old = tells-number _ _ (row .old) (tells-old (kindOf row))
-tells-field h row z field.New = tells-number _ _ (row .new) (tells-new (kindOf row))
+tells-field h row z field.Old = both (tells-old (kindOf row)) (differs (row .old) 0)
+tells-field h row z field.New = both (tells-new (kindOf row)) (differs (row .new) 0)
 
 -- 9: both searches, over the rows and in the row, find what is first
 module _ (h : Header) (f : List ℕ) (at : ℕ) where
@@ -228,7 +227,7 @@ pub line : (h : Header) (f : List ℕ) (room : Room) (why : Refusal) (at : ℕ) 
 unfolding firstRow firstLaterRow firstByte
 line h f room refusal.Short at = whole-iff _ _ at (less (length f) 11)
 line h f room refusal.Mark at = whole-iff _ _ at (tells-mark f)
-line h f room refusal.Version at = whole-iff _ _ at (differs (h .version) 1)
+line h f room refusal.Version at = whole-iff _ _ at (both (differs (h .version) 1) (differs (h .version) 2))
 line h f room refusal.Processes at = whole-iff _ _ at (tells-range (h .processes))
 line h f room refusal.Words at = whole-iff _ _ at (tells-range (h .words))
 line h f room refusal.Rows at = whole-iff _ _ at (less 512 (h .rows))

@@ -10,7 +10,7 @@ use lib.ListN.{getD, length}
 use Rattle.runfile.specs.declared.Row.{Row}
 use Rattle.runfile.specs.declared.Field.{Field}
 use Rattle.runfile.specs.declared.Field.the-variants.{Process, Kind, Word, ZeroByte, Old, New}
-use Rattle.runfile.specs.Format.{RowSize, row-least, newPlace, new-place, new-after, offsetOf}
+use Rattle.runfile.specs.Format.{RowSize, newPlace, new-after, offsetOf}
 use Rattle.runfile.specs.Layout.{rowPlace, byteAt, numberAt, rowAt, zeroByteAt}
 
 -- the six fields, in the order in which they stand and are looked at (R10, R36)
@@ -95,7 +95,7 @@ rising stride x y = go (new-after stride) (slot stride x) (slot stride y)
 
 -- a field begins within its row
 pub offset-within : (stride : ℕ) → RowSize stride → (x : Field) → offsetOf stride x < stride
-offset-within stride s x = let n = new-place stride s in let l = row-least stride s in ⊎-elim (λ p. omega arith) (λ p. omega arith) (slot stride x)
+offset-within stride s x = let n = s .new-within in let l = s .least in ⊎-elim (λ p. omega arith) (λ p. omega arith) (slot stride x)
 
 -- a place gives the row, by division by a row's size, and the offset of the field, by the remainder; and an offset names one field
 past : (stride start k o : ℕ) → rowPlace stride start k + o - start ≡ o + k * stride
@@ -103,7 +103,7 @@ past stride start k o = omega arith
 
 pub place-row : (stride start k : ℕ) → RowSize stride → (x : Field) → (rowPlace stride start k + offsetOf stride x - start) / stride ≡ k
 place-row stride start k s x =
-    let l = row-least stride s in
+    let l = s .least in
     rw (past stride start k (offsetOf stride x), add-mul-div-right (offsetOf stride x) k (positive l), div-eq-of-lt (offset-within stride s x)) (zero-add k)
   where
     positive : 8 ≤ stride → 0 < stride

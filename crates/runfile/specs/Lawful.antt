@@ -1,6 +1,7 @@
 -- What a file is like that is not refused: the facts that later layers use, read off the checks that found nothing.
 use Prim.Native.Nat.{ℕ, zero, suc, _+_, _*_, _-_, _/_, _%_, _≤_, _<_}
 use mathlib.Core.Path.{_≡_, refl, sym, _∙_, ap, subst}
+use mathlib.Core.Logic.{_⊎_, inl, inr}
 use mathlib.Core.Bool.{Bool, true, false, cond, not, _&&_, _||_, true≢false}
 use mathlib.Core.List.{List}
 use native.Mathlib.Omega.{arith}
@@ -21,7 +22,7 @@ use Rattle.runfile.specs.Layout.{marked, headerIn, rowsStart, strideOf, 
 use Rattle.runfile.specs.Fields.{fields, fieldAt, orderOf, ordered}
 use Rattle.runfile.specs.Actions.{crashAll, none, actionOf}
 use Rattle.runfile.specs.Kinds.{kindOf}
-use Rattle.runfile.specs.Refusals.{outOfRange, zeroOld, zeroNew, badField, badIn, sameBy, sameFields, badAction, badByte, offendsAt, badFieldIn, firstBadField, firstRow, firstLaterRow, firstByte, below, same, found, headChecks, bodyChecks, fileChecks, roomChecks, inOrder, refusalOf, noRoom, fileRefusal}
+use Rattle.runfile.specs.Refusals.{unknownVersion, outOfRange, zeroOld, zeroNew, badField, badIn, sameBy, sameFields, badAction, badByte, offendsAt, badFieldIn, firstBadField, firstRow, firstLaterRow, firstByte, below, same, found, headChecks, bodyChecks, fileChecks, roomChecks, inOrder, refusalOf, noRoom, fileRefusal}
 use Rattle.runfile.specs.Table.{Marked, Same, SameFields, rowOf, zeroByteOf, byteOf}
 use Rattle.runfile.specs.Order.{Clear, clear-parts, accepts, accepted, passes, whole-clear}
 use Rattle.runfile.specs.Searches.{none-found, none-offends}
@@ -29,7 +30,7 @@ use Rattle.runfile.specs.Searches.{none-found, none-offends}
 -- refusals 2 to 8 are not given
 pub record LawfulHead (h : Header) (f : List ℕ) : Type 0 where
   pub mark : Marked f
-  pub version : h .version ≡ 1
+  pub version : (h .version ≡ 1) ⊎ (h .version ≡ 2)
   pub some-process : 1 ≤ h .processes
   pub processes : h .processes ≤ 16
   pub some-word : 1 ≤ h .words
@@ -92,6 +93,13 @@ has-mark f e = go (eqb (getD f 0 0) 83) (eqb (getD f 1 0) 87) (eqb (getD f 2 0) 
     go true false c p q r e = absurd (let y : _≡_ {A = ℕ} 0 1 = cc in omega arith)
     go false b c p q r e = absurd (let y : _≡_ {A = ℕ} 0 1 = cc in omega arith)
 
+known : (version : ℕ) → unknownVersion version ≡ false → (version ≡ 1) ⊎ (version ≡ 2)
+known version e = go (eqb version 1) refl e
+  where
+    go : (first : Bool) → eqb version 1 ≡ first → (not first && not (eqb version 2)) ≡ false → (version ≡ 1) ⊎ (version ≡ 2)
+    go true q e = inl (eqb-true version 1 q)
+    go false q e = inr (eqb-true version 2 (not-false (eqb version 2) e))
+
 pub lawful-head : (h : Header) (f : List ℕ) (room : Room) → Clear (found h f room) headChecks → LawfulHead h f
 lawful-head h f room c =
     let r = c .1 .1 in
@@ -99,7 +107,7 @@ lawful-head h f room c =
     let w = in-range (h .words) (whole-clear (outOfRange (h .words)) (r .1 .0)) in
     record {
       mark = has-mark f (not-false (marked f) (whole-clear (not (marked f)) (c .0)));
-      version = eqb-true (h .version) 1 (not-false (eqb (h .version) 1) (whole-clear (not (eqb (h .version) 1)) (c .1 .0)));
+      version = known (h .version) (whole-clear (unknownVersion (h .version)) (c .1 .0));
       some-process = p .0;
       processes = p .1;
       some-word = w .0;

@@ -1,7 +1,7 @@
 -- Where the parts of a run file stand, and their fields (R1 to R8, R10).
 -- A file is the list of its bytes. Everything here is total: a byte past the end counts as 0.
-use Prim.Native.Nat.{ℕ, _+_, _*_, _≤_}
-use mathlib.Core.Bool.{Bool, _&&_}
+use Prim.Native.Nat.{ℕ, _+_, _*_, _/_, _%_, _≤_}
+use mathlib.Core.Bool.{Bool, cond, _&&_}
 use mathlib.Core.List.{List}
 use lib.Dec.{eqb}
 use lib.ListN.{getD, length, drop}
@@ -19,6 +19,9 @@ u16At f at = byteAt f at + byteAt f (at + 1) * 256
 unfoldable pub u32At : List ℕ → ℕ → ℕ
 u32At f at = byteAt f at + byteAt f (at + 1) * 256 + byteAt f (at + 2) * 65536 + byteAt f (at + 3) * 16777216
 
+unfoldable pub u64At : List ℕ → ℕ → ℕ
+u64At f at = u32At f at + u32At f (at + 4) * 4294967296
+
 -- the file begins with the mark `SWR` (R3)
 unfoldable pub marked : List ℕ → Bool
 marked f = eqb (byteAt f 0) 83 && (eqb (byteAt f 1) 87 && eqb (byteAt f 2) 82)
@@ -27,12 +30,16 @@ marked f = eqb (byteAt f 0) 83 && (eqb (byteAt f 1) 87 && eqb (byteAt f 2) 82)
 unfoldable pub headerIn : List ℕ → Header
 headerIn f = record { version = u16At f 3; processes = byteAt f 5; words = byteAt f 6; rows = u16At f 7; steps = u16At f 9 }
 
+-- a word of version 1, which has 16 bits of value, with 32 bits of value: the flip bits move up behind them (R6)
+unfoldable pub widened : ℕ → ℕ
+widened word = word % 65536 + word / 65536 * 4294967296
+
 -- where start word i stands in a file of this version, and the word (R6)
 abbrev pub wordPlace : ℕ → ℕ → ℕ
 wordPlace version i = headSize version + i * wordSize version
 
 abbrev pub wordIn : ℕ → List ℕ → ℕ → ℕ
-wordIn version f i = u32At f (wordPlace version i)
+wordIn version f i = cond (eqb version 1) (widened (u32At f (wordPlace version i))) (u64At f (wordPlace version i))
 
 -- where the rows begin, how many bytes it is from one to the next, and where row k of those that begin at `start` stands (R7)
 abbrev pub rowsStart : Header → ℕ
@@ -46,7 +53,7 @@ rowPlace stride start k = start + k * stride
 
 -- old or new of a row; and the fields of the row at a place (R10)
 unfoldable pub numberAt : ℕ → List ℕ → ℕ → ℕ
-numberAt stride f at = u16At f at
+numberAt stride f at = cond (eqb stride 8) (u16At f at) (u32At f at)
 
 unfoldable pub rowAt : ℕ → List ℕ → ℕ → Row
 rowAt stride f at = record { process = byteAt f at; kind = byteAt f (at + 1); word = byteAt f (at + 2); old = numberAt stride f (at + 4); new = numberAt stride f (at + newPlace stride) }

@@ -42,6 +42,10 @@ numberOf refusal.WordsRoom = 13
 numberOf refusal.LogRoom = 14
 numberOf refusal.AnswersRoom = 15
 
+-- a version that is neither 1 nor 2 (R43)
+abbrev pub unknownVersion : ℕ → Bool
+unknownVersion version = not (eqb version 1) && not (eqb version 2)
+
 -- P and W may be 1 to 16 (R44, R45)
 abbrev pub outOfRange : ℕ → Bool
 outOfRange n = eqb n 0 || ltb 16 n
@@ -144,7 +148,7 @@ whole t = foundIf t 0
 abbrev pub found : Header → List ℕ → Room → Refusal → Found
 found h f room refusal.Short = whole (ltb (length f) leastHead)
 found h f room refusal.Mark = whole (not (marked f))
-found h f room refusal.Version = whole (not (eqb (h .version) 1))
+found h f room refusal.Version = whole (unknownVersion (h .version))
 found h f room refusal.Processes = whole (outOfRange (h .processes))
 found h f room refusal.Words = whole (outOfRange (h .words))
 found h f room refusal.Rows = whole (ltb 512 (h .rows))

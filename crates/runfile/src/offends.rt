@@ -10,7 +10,7 @@ use super::read::number_at;
 ghost use mathlib.Core.Path.{_≡_};
 ghost use Prim.Native.Nat.{_+_, _≤_, _<_};
 ghost use lib.ListN.{length};
-ghost use Rattle.runfile.specs.Format.{RowSize, longestOfAll};
+ghost use Rattle.runfile.specs.Format.{numberSize, RowSize, longestOfAll};
 ghost use Rattle.runfile.specs.Layout.{numberAt, rowAt, rowPlace, zeroByteAt};
 ghost use Rattle.runfile.specs.Promises.{ByteJudged};
 ghost use Rattle.runfile.specs.Refusals.{zeroOld, zeroNew, badNumber, badField, sameFields, badByte, below, same, firstBadField, firstRow, firstLaterRow, firstByte};
@@ -46,7 +46,7 @@ fn has_zero_new(kind: Kind) -> bool
 
 // Old or new, which stands at `place` in a row of this size, where it must be 0.
 fn is_bad_number(file: &[u8], zero: bool, place: usize, stride: usize) -> bool
-    requires { ⌜ RowSize stride × (place + 2 ≤ length (now file)) ⌝ }
+    requires { ⌜ place + numberSize stride ≤ length (now file) ⌝ }
     ensures { λ r. ⌜ r ≡ badNumber zero (numberAt stride (now (file .entry)) place) ⌝ }
 {
     if zero {

@@ -8,8 +8,8 @@ use super::format::word_size;
 ghost use mathlib.Core.Path.{_≡_};
 ghost use Prim.Native.Nat.{_+_, _*_, _≤_, _<_};
 ghost use lib.ListN.{length};
-ghost use Rattle.runfile.specs.Format.{leastHead, RowSize};
-ghost use Rattle.runfile.specs.Layout.{u16At, numberAt, rowOfTable, HasRow, marked, headerIn, wordPlace, lengthGiven};
+ghost use Rattle.runfile.specs.Format.{leastHead, numberSize, RowSize};
+ghost use Rattle.runfile.specs.Layout.{u16At, u64At, widened, numberAt, rowOfTable, HasRow, marked, headerIn, wordPlace, lengthGiven};
 ghost use Rattle.runfile.specs.Promises.{Index8, Index16, FourBytes, RowRead, RowWord, HeaderOrZeros, StartWord, Stride, RowsStart, ScheduleStart};
 
 // A byte or a number of two bytes, widened: nothing is lost, and the bound goes with it.
@@ -56,12 +56,35 @@ pub fn u32_at(file: &[u8], at: usize) -> u32
         + wide32(file[at + 3]) * 16777216
 }
 
+fn wide64(x: u32) -> u64
+    ensures { λ r. ⌜ (r ≡ x) × (r < 4294967296) ⌝ }
+{
+    x as u64
+}
+
+// A number of eight bytes, low byte first.
+pub fn u64_at(file: &[u8], at: usize) -> u64
+    requires { ⌜ at + 8 ≤ length (now file) ⌝ }
+    ensures { λ r. ⌜ r ≡ u64At (now (file .entry)) at ⌝ }
+{
+    wide64(u32_at(file, at)) + wide64(u32_at(file, at + 4)) * 4294967296
+}
+
+fn wide16(x: u16) -> u32
+    ensures { λ r. ⌜ r ≡ x ⌝ }
+{
+    x as u32
+}
+
 // Old or new of a row of this size.
-pub fn number_at(file: &[u8], at: usize, stride: usize) -> u16
-    requires { ⌜ RowSize stride × (at + 2 ≤ length (now file)) ⌝ }
+pub fn number_at(file: &[u8], at: usize, stride: usize) -> u32
+    requires { ⌜ at + numberSize stride ≤ length (now file) ⌝ }
     ensures { λ r. ⌜ r ≡ numberAt stride (now (file .entry)) at ⌝ }
 {
-    u16_at(file, at)
+    if stride == 8 {
+        return wide16(u16_at(file, at));
+    }
+    u32_at(file, at)
 }
 
 // Row k of a table of rows, which are so many bytes from one to the next.
@@ -139,13 +162,23 @@ pub fn header_or_zeros(file: &[u8]) -> Header
     header_of(file)
 }
 
+// A word of version 1, widened: the value stays in front, and the flip bits move up behind 32 bits of value (R6).
+fn widen(word: u32) -> u64
+    ensures { λ r. ⌜ r ≡ widened word ⌝ }
+{
+    wide64(word % 65536) + wide64(word / 65536) * 4294967296
+}
+
 // The start word i.
-pub fn word_at(file: &[u8], header: Header, i: usize) -> u32
+pub fn word_at(file: &[u8], header: Header, i: usize) -> u64
     requires { ⌜ wordPlace (header .version) (i + 1) ≤ length (now file) ⌝ }
     ensures { λ r. ⌜ StartWord header (now (file .entry)) i r ⌝ }
 {
     let at = head_size(header.version) + i * word_size(header.version);
-    u32_at(file, at)
+    if header.version == 1 {
+        return widen(u32_at(file, at));
+    }
+    u64_at(file, at)
 }
 
 pub fn stride_of(header: Header) -> usize

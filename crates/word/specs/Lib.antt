@@ -2,4 +2,5 @@ pub mod Word
 pub mod Bits
 pub mod Laws
 pub mod Widths
+pub mod Widened
 pub mod Promises

@@ -6,7 +6,7 @@ use lib.Dec.{eqb}
 
 -- how many bits of a word are its value (R14)
 abbrev pub width : ℕ
-width = 16
+width = 32
 
 -- bit p of a number, the lowest being bit 0; and the number with its bit p turned
 unfoldable pub bitOf : ℕ → ℕ → Bool

@@ -8,14 +8,8 @@ use Rattle.word.specs.Laws.{bit-stands}
 use Rattle.word.proofs.bit_of.Statement.{statement}
 use Rattle.word.proofs.bit_of.Tie as tie
 
-add-result : tie.Need-add-result
-add-result c = search needs
-
-shr-result : tie.Need-shr-result
-shr-result c = search needs
-
 returns : tie.Need-returns
 returns c = let a = c .args in sym (bit-stands width (a .process) (a .word) ∙ bit-of-div (width + a .process) (a .word))
 
 pub bit-of-spec : {M : Type 1} → statement M
-bit-of-spec = tie.close (tie.spec add-result shr-result returns)
+bit-of-spec = tie.close (tie.spec (λ c. search needs) (λ c. search needs) (λ c. search needs) returns)

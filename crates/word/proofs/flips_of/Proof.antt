@@ -9,4 +9,4 @@ unfolding flipsIn
 returns c = search needs
 
 pub flips-of-spec : {M : Type 1} → statement M
-flips-of-spec = tie.close (tie.spec returns)
+flips-of-spec = tie.close (tie.spec (λ c. search needs) returns)

@@ -1,4 +1,4 @@
--- `swapped_of` meets its contract: the exclusive or turns bit `width` + p and no other (`put-in`), and what the value leaves of 2^32 has room for new.
+-- `swapped_of` meets its contract: the exclusive or turns bit `width` + p and no other (`put-in`), and what the value leaves of 2^64 has room for new.
 use Prim.Native.Nat.{ℕ, _+_, _*_, _-_, _%_, _^_, _<_}
 use mathlib.Core.Path.{_≡_, ap}
 use native.Mathlib.Omega.{arith}
@@ -12,22 +12,13 @@ use Rattle.word.proofs.swapped_of.Statement.{statement}
 use Rattle.word.proofs.swapped_of.Tie as tie
 
 -- the shift loses nothing
-own : (p : ℕ) → width + p < 32 → (1 * 2 ^ (width + p)) % 2 ^ 32 ≡ 2 ^ (width + p)
-own p h = rw (one-mul (2 ^ (width + p))) (mod-eq-of-lt (pow-lt {i = width + p} {j = 32} (omega arith)))
+own : (p : ℕ) → width + p < 64 → (1 * 2 ^ (width + p)) % 2 ^ 64 ≡ 2 ^ (width + p)
+own p h = rw (one-mul (2 ^ (width + p))) (mod-eq-of-lt (pow-lt {i = width + p} {j = 64} (omega arith)))
 
--- a word of 32 bits, whatever bits are turned in it, has room for another value when its own is taken out
-room : (w o v n : ℕ) → w < 2 ^ 32 → v ≡ valueIn width (bitXor w (o % 2 ^ 32)) → n < 2 ^ width → bitXor w (o % 2 ^ 32) - v + n < 2 ^ 32
+-- a word of 64 bits, whatever bits are turned in it, has room for another value when its own is taken out
+room : (w o v n : ℕ) → w < 2 ^ 64 → v ≡ valueIn width (bitXor w (o % 2 ^ 64)) → n < 2 ^ width → bitXor w (o % 2 ^ 64) - v + n < 2 ^ 64
 unfolding valueIn
-room w o v n h e f = omega (arith, xor-lt 32 w (o % 2 ^ 32) h (omega arith))
-
-add-own : tie.Need-add-own
-add-own c = search needs
-
-shl-own : tie.Need-shl-own
-shl-own c = search needs
-
-value-of-requires : tie.Need-value-of-requires
-value-of-requires c κs = search needs
+room w o v n h e f = omega (arith, xor-lt 64 w (o % 2 ^ 64) h (omega arith))
 
 sub-result : tie.Need-sub-result
 unfolding valueIn
@@ -43,4 +34,4 @@ returns c = let a = c .before .args in
 
 pub swapped-of-spec : {M : Type 1} → statement M
 swapped-of-spec =
-    tie.close (tie.spec add-own shl-own value-of-requires sub-result add-result returns)
+    tie.close (tie.spec (λ c. search needs) (λ c. search needs) (λ c. search needs) (λ c κs. search needs) (λ c. search needs) sub-result add-result returns)

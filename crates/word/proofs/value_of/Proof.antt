@@ -9,4 +9,4 @@ unfolding valueIn
 returns c = search needs
 
 pub value-of-spec : {M : Type 1} → statement M
-value-of-spec = tie.close (tie.spec returns)
+value-of-spec = tie.close (tie.spec (λ c. search needs) returns)

@@ -23,7 +23,6 @@ after-read-spec =
     (λ c κs. search needs)
     (λ c. search needs)
     (λ c κs. search needs)
-    (λ c. search needs)
     returns
     returns-2
     returns-3)

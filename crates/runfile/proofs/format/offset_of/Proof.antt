@@ -4,7 +4,7 @@ use Rattle.runfile.proofs.format.offset_of.Statement.{statement}
 use Rattle.runfile.proofs.format.offset_of.Tie as tie
 
 returns-6 : tie.Need-returns-6
-returns-6 c = (simp (c .new-place .ensures .0, c .before .enum-told6 .given .1), search needs)
+returns-6 c = (simp (c .new-place .ensures .0, c .before .enum-told6 .given .1), let e = c .new-place .ensures .0 in search needs)
 
 pub offset-of-spec : {M : Type 1} → statement M
 offset-of-spec =

@@ -3,7 +3,7 @@ use Rattle.runfile.proofs.Below.{is-below, not-below}
 use Rattle.runfile.proofs.First.{From, hit, miss, over}
 use Rattle.runfile.specs.Refusals.{firstOffender, firstLaterRow, below}
 use Rattle.runfile.specs.Layout.{rowPlace}
-use Rattle.runfile.specs.Format.{row-least, within, one-before}
+use Rattle.runfile.specs.Format.{within, one-before}
 use denote.Ref.{now}
 use lib.ListN.{length}
 use native.Mathlib.Omega.{arith}
@@ -50,10 +50,10 @@ sub-before : tie.Need-sub-before Inv-loop μ-loop
 sub-before c = let w = later c in omega arith
 
 shared-slice-read-if1 : tie.Need-shared-slice-read-if1 Inv-loop μ-loop
-shared-slice-read-if1 c = let w = fits (c .before) in let s = row-least _ (c .before .before .before .pre .0) in omega arith
+shared-slice-read-if1 c = let w = fits (c .before) in let s = c .before .before .before .pre .0 .least in omega arith
 
 shared-slice-read-if1-2 : tie.Need-shared-slice-read-if1-2 Inv-loop μ-loop
-shared-slice-read-if1-2 c = let w = fits (c .before .before) in let b = later (c .before .before) in let s = row-least _ (c .before .before .before .before .pre .0) in omega arith
+shared-slice-read-if1-2 c = let w = fits (c .before .before) in let b = later (c .before .before) in let s = c .before .before .before .before .pre .0 .least in omega arith
 
 returns : tie.Need-returns Inv-loop μ-loop
 unfolding firstLaterRow

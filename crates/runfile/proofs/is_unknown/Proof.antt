@@ -1,0 +1,13 @@
+-- `is_unknown` meets its contract: the two tests in order.
+use borrow.Author.Tests.{eq-eqb, ne-eqb}
+use Rattle.runfile.proofs.is_unknown.Statement.{statement}
+use Rattle.runfile.proofs.is_unknown.Tie as tie
+
+returns : tie.Need-returns
+returns c = simp (eq-eqb _ _ (c .if1 .taken))
+
+returns-2 : tie.Need-returns-2
+returns-2 c = simp (ne-eqb _ _ (c .if1 .left))
+
+pub is-unknown-spec : {M : Type 1} → statement M
+is-unknown-spec = tie.close (tie.spec returns returns-2)
