@@ -4,7 +4,7 @@ from names import CONTRACTS, dashed, number_typed, own_number, own_struct, own_t
 from walk import Walk, asked, items, left, local, part, sub, tuple_of, type_of
 
 LISTS = ['file', 'records', 'words', 'log', 'answers']
-ELEMENTS = ['u8', 'R', 'u32', 'u32', 'u32']
+ELEMENTS = ['u8', 'R', 'u64', 'u32', 'u32']
 K, Q, B, O, G, X, S = [[c + sub(k) for k in range(5)] for c in 'κqboγxs']
 ROOMS = ['room' + sub(k) for k in range(5)]
 # what comes with the key: the last parameter of `press`, `key` and `lend_records`, a struct; v-stroke is its machine value
@@ -570,13 +570,13 @@ def key_values():
 
 
 def lend_closing(callees, params):
-    tells = ['shr-slice-tells (named 0) (κs .0) u8', 'LL.tells D.the-type D′.the-laws'] + [f'mut-slice-tells (named {LIFETIME[k]}) ({part("κs", LIFETIME[k])}) u32' for k in [2, 3, 4]] + [STROKE_TELLS]
+    tells = ['shr-slice-tells (named 0) (κs .0) u8', 'LL.tells D.the-type D′.the-laws'] + [f'mut-slice-tells (named {LIFETIME[k]}) ({part("κs", LIFETIME[k])}) {ELEMENTS[k]}' for k in [2, 3, 4]] + [STROKE_TELLS]
     return closing('lend_records', callees, 4, params, ['slice-vals', 'LL.vals D.the-type D′.the-laws'] + ['slice-vals'] * 3 + [STROKE_VALS], tells, entered(callees, OWN_SLICES, ' ' + handed_struct('D', 1)), False)
 
 
 def lend_records():
     callees = ['records_of', 'key', 'with_records']
-    params = [('seen', 0, 'u8'), ('plain', 'D.the-row')] + [('given', LIFETIME[k], 'u32') for k in [2, 3, 4]] + [STROKE_PARAM]
+    params = [('seen', 0, 'u8'), ('plain', 'D.the-row')] + [('given', LIFETIME[k], ELEMENTS[k]) for k in [2, 3, 4]] + [STROKE_PARAM]
     write('lend_records', callees, {
         **key_values(),
         'stayed': stayed(params),

@@ -5,7 +5,7 @@ use mathlib.Core.Path.{_≡_, refl}
 use mathlib.Core.List.{List, [], _∷_, _++_, map}
 use lib.ListN.{length, replicate}
 use Rattle.runfile.specs.Format.{headSize, wordSize, rowSize, newPlace}
-use Rattle.runfile.specs.Layout.{u16At, u32At, marked, headerIn, numberAt, rowAt}
+use Rattle.runfile.specs.Layout.{u16At, u32At, u64At, widened, marked, headerIn, numberAt, rowAt}
 use Rattle.runfile.specs.Operations.{wordsOf, rowsFrom, tableOf, rowNumbered, first, count, names}
 use Rattle.runfile.specs.Refusals.{numberOf, badField, firstBadField, sameFields, badByte, firstRow, firstLaterRow, firstByte, refusalOf}
 use Rattle.word.specs.Word.{bitOf, turnOf, valueIn, flipsIn, bitIn, swappedIn}
@@ -71,7 +71,7 @@ pub record Case : Type 0 where
 row : (position process number verdict value : ℕ) → List ℕ
 row position process number verdict value = position ∷ process ∷ number ∷ verdict ∷ value ∷ []
 
--- the file runs to these log rows, answer rows and this final word
+-- the file runs to these log rows, answer rows and this final word: the flip bits stand behind 32 bits of value (R15)
 comesTo : List ℕ → (log answers : List (List ℕ)) → ℕ → Case
 comesTo f log answers word =
     record {
@@ -92,7 +92,7 @@ isRefused f number at =
 
 -- a: a swap from its start to its answer (R261)
 a : Case
-a = comesTo (file 1 (compares 0 7 8 ∷ []) (times 9 0x00)) (row 6 0 0 1 0 ∷ []) (row 8 0 0 1 0 ∷ []) 65544
+a = comesTo (file 1 (compares 0 7 8 ∷ []) (times 9 0x00)) (row 6 0 0 1 0 ∷ []) (row 8 0 0 1 0 ∷ []) 4294967304
 
 -- b: p0 crashes behind A1, and p1 has swapped to the very value that p0 wants: p0 gets fail (R262)
 b : Case
@@ -101,7 +101,7 @@ b =
     (file 2 (compares 0 7 8 ∷ compares 1 7 8 ∷ []) (joined (times 4 0x00 ∷ times 7 0x01 ∷ times 1 0x10 ∷ times 1 0x20 ∷ times 3 0x00 ∷ [])))
     (row 10 1 1 1 0 ∷ [])
     (row 15 0 0 2 0 ∷ [])
-    131080
+    8589934600
 
 -- c: a crash between A3 and A4: the checkpoint is set and nothing swapped, so fail (R263)
 c : Case
@@ -114,7 +114,7 @@ d =
     (file 1 (compares 0 7 8 ∷ []) (joined (times 7 0x00 ∷ times 1 0x10 ∷ times 1 0x20 ∷ times 5 0x00 ∷ [])))
     (row 6 0 0 1 0 ∷ [])
     (row 13 0 0 1 0 ∷ [])
-    65544
+    4294967304
 
 -- e: as d, and another swap has changed the value since: still true (R265)
 e : Case
@@ -123,7 +123,7 @@ e =
     (file 2 (compares 0 7 8 ∷ compares 1 8 9 ∷ []) (joined (times 7 0x00 ∷ times 7 0x01 ∷ times 1 0x10 ∷ times 1 0x20 ∷ times 5 0x00 ∷ [])))
     (row 6 0 0 1 0 ∷ row 13 1 1 1 0 ∷ [])
     (row 20 0 0 1 0 ∷ [])
-    196617
+    12884901897
 
 -- f: a lost swap: it is logged behind the swap to which it lost (R266)
 f : Case
@@ -132,7 +132,7 @@ f =
     (file 2 (compares 0 7 8 ∷ compares 1 7 9 ∷ []) (joined (times 4 0x00 ∷ times 7 0x01 ∷ times 5 0x00 ∷ [])))
     (row 10 1 1 1 0 ∷ row 10 0 0 0 0 ∷ [])
     (row 15 0 0 0 0 ∷ [])
-    131081
+    8589934601
 
 -- g: as f, with a crash before the answer is stored: fail, and not in the log (R267)
 g : Case
@@ -141,7 +141,7 @@ g =
     (file 2 (compares 0 7 8 ∷ compares 1 7 9 ∷ []) (joined (times 4 0x00 ∷ times 7 0x01 ∷ times 3 0x00 ∷ times 1 0x10 ∷ times 1 0x20 ∷ times 4 0x00 ∷ [])))
     (row 10 1 1 1 0 ∷ [])
     (row 19 0 0 2 0 ∷ [])
-    131081
+    8589934601
 
 -- h: a read (R268)
 h : Case
@@ -165,7 +165,7 @@ k =
     (joined (times 7 0x00 ∷ times 1 0x10 ∷ times 1 0x20 ∷ times 4 0x00 ∷ times 1 0x10 ∷ times 1 0x20 ∷ times 2 0x00 ∷ [])))
     (row 6 0 0 1 0 ∷ [])
     (row 16 0 0 1 0 ∷ [])
-    65544
+    4294967304
 
 -- l: a compare that would swap a value for itself (R51, R272)
 l : Case
@@ -187,7 +187,7 @@ ended f =
 
 -- the statement: each file of the table ends as the table says (R295)
 pub cases : map (λ x. ended (x .file)) table ≡ map (λ x. x .says) table
-unfolding joined times compares reads file lentWords lentRows resultOf row comesTo isRefused a b c d e f g h i j k l table ended u16At u32At marked headSize wordSize rowSize newPlace headerIn numberAt rowAt wordsOf rowsFrom tableOf rowNumbered first count names badField firstBadField sameFields badByte firstRow firstLaterRow firstByte refusalOf bitOf turnOf valueIn flipsIn bitIn swappedIn isSwapped onePast place insert isSwap firstSwap five infront spoken triedIn storingIn decideIn stepTurnIn turnIn apply applied procAt actIn stepIn afterIn begin endOf
+unfolding joined times compares reads file lentWords lentRows resultOf row comesTo isRefused a b c d e f g h i j k l table ended u16At u32At u64At widened marked headSize wordSize rowSize newPlace headerIn numberAt rowAt wordsOf rowsFrom tableOf rowNumbered first count names badField firstBadField sameFields badByte firstRow firstLaterRow firstByte refusalOf bitOf turnOf valueIn flipsIn bitIn swappedIn isSwapped onePast place insert isSwap firstSwap five infront spoken triedIn storingIn decideIn stepTurnIn turnIn apply applied procAt actIn stepIn afterIn begin endOf
 cases = refl
 
 -- and `run` gives nothing else: whatever meets its contract on a file, over what is lent here, is what `ended` says

@@ -40,11 +40,11 @@ OfFile h f = OfFlipBit (tableOf h f) (h .processes) (wordsOf h f) (scheduleIn h 
 
 module _ (f : List ℕ) (bytes : Bytes f) where
   -- a row that is lawful is good: where it swaps, it compares, and has an old and a new that differ
-  good-row : (W : ℕ) (row : Row) → row .word < W → row .new < 65536 → (SameFields row → ⊥) → Good W row
+  good-row : (W : ℕ) (row : Row) → row .word < W → row .new < 2 ^ width → (SameFields row → ⊥) → Good W row
   good-row W row inside fits differ =
       record {
         inside = inside;
-        fits = λ v. let z : 2 ^ width ≡ 65536 = refl in rw (new-put (kindOf row) (row .new) v, z) fits;
+        fits = λ v. rw (new-put (kindOf row) (row .new) v) fits;
         differ = λ v swaps same.
             let w = answer-swapped row v swaps in
             differ (subst (λ kind. Same kind (row .old) (row .new)) (sym (w .0)) (sym (w .1) ∙ sym same ∙ new-put (kindOf row) (row .new) v));

@@ -7,7 +7,7 @@ use mathlib.Core.List.{List, [], _∷_, map}
 use lib.ListN.{replicate}
 use Rattle.runfile.specs.declared.Row.{Row}
 use Rattle.runfile.specs.Format.{headSize, wordSize, rowSize, newPlace}
-use Rattle.runfile.specs.Layout.{u16At, marked, headerIn, numberAt, rowAt}
+use Rattle.runfile.specs.Layout.{u16At, u32At, marked, headerIn, numberAt, rowAt}
 use Rattle.runfile.specs.Operations.{rowsFrom, tableOf, rowNumbered, first, count, names}
 use Rattle.runfile.specs.Refusals.{badField, sameFields, badByte, firstBadField, firstRow, firstLaterRow, firstByte, fileRefusal}
 use Rattle.machine.specs.declared.Process.{Process}
@@ -140,7 +140,7 @@ pub in-order :
     ∷ refusal (keyed file idle (7 ∷ []) (replicate 15 0) (replicate 5 0) (keyOf 0 1023 2 0) .outcome)
     ∷ []
     ≡ 2 ∷ 13 ∷ 13 ∷ 14 ∷ 14 ∷ 15 ∷ 21 ∷ 21 ∷ 22 ∷ 22 ∷ 22 ∷ 0 ∷ []
-unfolding keyed pressed verdictOf judged fileRefusal headerIn u16At marked headSize wordSize rowSize newPlace numberAt rowAt badField sameFields badByte firstBadField firstRow firstLaterRow firstByte tableOf rowsFrom anyImpossible impossible misplaced misdone rowNumbered first count
+unfolding keyed pressed verdictOf judged fileRefusal headerIn u16At u32At marked headSize wordSize rowSize newPlace numberAt rowAt badField sameFields badByte firstBadField firstRow firstLaterRow firstByte tableOf rowsFrom anyImpossible impossible misplaced misdone rowNumbered first count
 in-order = refl
 
 -- case f (R266), key after key: two rows in the log, the swap of process 1 and behind it the one that lost to it, and one answer
@@ -156,8 +156,8 @@ ended = stepping caseF 0 keys (ready idle (7 ∷ []) (replicate 80 99) (replicat
 
 pub f-stepped :
     (ended .outcome ≡ Went 2 1)
-    × (ended .words ≡ (9 + 2 * 65536) ∷ [])
+    × (ended .words ≡ (9 + 2 * 4294967296) ∷ [])
     × (ended .log ≡ 10 ∷ 1 ∷ 1 ∷ 1 ∷ 0 ∷ 10 ∷ 0 ∷ 0 ∷ 0 ∷ 0 ∷ replicate 70 99)
     × (ended .answers ≡ 15 ∷ 0 ∷ 0 ∷ 0 ∷ 0 ∷ replicate 75 99)
-unfolding keyed pressed verdictOf judged fileRefusal headerIn u16At marked headSize wordSize rowSize newPlace numberAt rowAt badField sameFields badByte firstBadField firstRow firstLaterRow firstByte tableOf rowsFrom anyImpossible impossible misplaced misdone rowNumbered first count stepping stepped stateOf names bitOf turnOf valueIn flipsIn bitIn swappedIn isSwapped onePast place insert isSwap firstSwap five entryAt infront spoken triedIn storingIn decideIn stepTurnIn turnIn apply applied procAt actIn stepIn
+unfolding keyed pressed verdictOf judged fileRefusal headerIn u16At u32At marked headSize wordSize rowSize newPlace numberAt rowAt badField sameFields badByte firstBadField firstRow firstLaterRow firstByte tableOf rowsFrom anyImpossible impossible misplaced misdone rowNumbered first count stepping stepped stateOf names bitOf turnOf valueIn flipsIn bitIn swappedIn isSwapped onePast place insert isSwap firstSwap five entryAt infront spoken triedIn storingIn decideIn stepTurnIn turnIn apply applied procAt actIn stepIn
 f-stepped = (refl, refl, refl, refl)

@@ -91,7 +91,7 @@ fn table_of(processes: [Process; 16], held: usize) -> Table
 pub fn key(
     file: &[u8],
     records: &mut [Process],
-    words: &mut [u32],
+    words: &mut [u64],
     log: &mut [u32],
     answers: &mut [u32],
     key: Stroke,

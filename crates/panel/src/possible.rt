@@ -46,7 +46,7 @@ fn read_says(answer: Answer) -> bool
     match answer {
         Answer::False => false,
         Answer::True => false,
-        Answer::Value(v) => word::value_of(v) == v,
+        Answer::Value(v) => word::value_of(v as u64) == v,
     }
 }
 

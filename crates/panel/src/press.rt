@@ -13,7 +13,7 @@ ghost use Rattle.panel.specs.Promises.{PressedOn};
 pub fn press(
     file: &[u8],
     table: Table,
-    words: &mut [u32],
+    words: &mut [u64],
     log: &mut [u32],
     answers: &mut [u32],
     key: Stroke,

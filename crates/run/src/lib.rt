@@ -32,7 +32,7 @@ pub struct Counts {
 fn run_words(
     file: &[u8],
     header: Header,
-    words: &mut [u32],
+    words: &mut [u64],
     log: &mut [u32],
     answers: &mut [u32],
 ) -> Counts
@@ -76,7 +76,7 @@ fn run_words(
 fn run_accepted(
     file: &[u8],
     header: Header,
-    words: &mut [u32],
+    words: &mut [u64],
     log: &mut [u32],
     answers: &mut [u32],
 ) -> Outcome
@@ -94,7 +94,7 @@ fn run_accepted(
 
 // Runs a run file over the three lent buffers (R180), or refuses it and leaves them untouched (R34). Nothing is asked of
 // the caller.
-pub fn run(file: &[u8], words: &mut [u32], log: &mut [u32], answers: &mut [u32]) -> Outcome
+pub fn run(file: &[u8], words: &mut [u64], log: &mut [u32], answers: &mut [u32]) -> Outcome
     ensures { λ r. ⌜ Ends (now (file .entry)) (now (words .entry)) (now (log .entry)) (now (answers .entry)) r (now (words .exit)) (now (log .exit)) (now (answers .exit)) ⌝ }
 {
     let room = Room {

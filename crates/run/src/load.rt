@@ -5,7 +5,7 @@ ghost use lib.ListN.{length};
 ghost use Rattle.runfile.specs.Layout.{wordPlace};
 ghost use Rattle.run.specs.Promises.{Loaded};
 
-pub fn load_words(file: &[u8], header: Header, words: &mut [u32])
+pub fn load_words(file: &[u8], header: Header, words: &mut [u64])
     requires { ⌜ wordPlace (header .version) (length (now words)) ≤ length (now file) ⌝ }
     ensures { λ _. ⌜ Loaded (now (file .entry)) header (now (words .entry)) (now (words .exit)) ⌝ }
 {

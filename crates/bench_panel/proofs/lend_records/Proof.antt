@@ -29,7 +29,7 @@ use denote.RattleType.{RattleType, owns}
 use denote.Memory.{cellAt, partAt, partOf, shares, mem as memory, pointee}
 use denote.ArrayMemory.{array-apart, array-whole}
 use denote.Laws.{Is, shows}
-use denote.Builtin.{u8, u32}
+use denote.Builtin.{u8, u32, u64}
 use denote.Array.{Array, array-vals, array-tells, array-lawful, array-makes}
 use denote.Ref.{RefT}
 use denote.Slice.{sliceTy, sliceVal, MutSlice, ShrSlice, Room, finally, slice-vals, mut-slice-tells, shr-slice-tells, shr-slice-copy}
@@ -99,7 +99,7 @@ abbrev slE : Ty
 slE = sliceTy (tyRef erased mut (pointee (R .written)))
 
 abbrev stayed : Stays (f.ended .signature .params) (f.ended .kept)
-stayed = (stay-none-slice (0 ∷ []) tt (plain (λ _. u8)) yes, (stay-none (λ _. D.the-row) yes, (gave-slice (1 ∷ []) tt (plain (λ _. u32)), (gave-slice (2 ∷ []) tt (plain (λ _. u32)), (gave-slice (3 ∷ []) tt (plain (λ _. u32)), (stay-none (λ _. S.the-row) yes, tt))))))
+stayed = (stay-none-slice (0 ∷ []) tt (plain (λ _. u8)) yes, (stay-none (λ _. D.the-row) yes, (gave-slice (1 ∷ []) tt (plain (λ _. u64)), (gave-slice (2 ∷ []) tt (plain (λ _. u32)), (gave-slice (3 ∷ []) tt (plain (λ _. u32)), (stay-none (λ _. S.the-row) yes, tt))))))
 
 -- sixteen records have room
 room-of : {n : ℕ} → n ≡ 16 → Room R n
@@ -181,9 +181,9 @@ module _ {M : Type 1} (𝓤 : URA M) (H : Heap 𝓤) (A : Atoms 𝓤) (W : Given
   lent-and-back records m r left words′ log′ answers′ out made is = rw (made .0, made .1, ← out) is
 
   exits : (r : Pressed) (w : Val) (words′ log′ answers′ : List ℕ) → Lends file bench words log answers stroke r words′ log′ answers′ → length words′ ≡ length words → length log′ ≡ length log → length answers′ ≡ length answers
-      → ent 𝓤 (⋆ 𝓤 H A (‵ (flft κ₀ q₀) ∷ ‵ (flft κ₂ q₂) ∷ ‵ (flft κ₃ q₃) ∷ ‵ (flft κ₄ q₄) ∷ ‵ (ShrSlice (named 0) κ₀ u8 .own x₀ (s₀ ∷ [])) ∷ ‵ (finally u32 γ₂ words′) ∷ ‵ (finally u32 γ₃ log′) ∷ ‵ (finally u32 γ₄ answers′) ∷ ‵ (P.the-row .own r (w ∷ [])) ∷ [])) (Post w)
+      → ent 𝓤 (⋆ 𝓤 H A (‵ (flft κ₀ q₀) ∷ ‵ (flft κ₂ q₂) ∷ ‵ (flft κ₃ q₃) ∷ ‵ (flft κ₄ q₄) ∷ ‵ (ShrSlice (named 0) κ₀ u8 .own x₀ (s₀ ∷ [])) ∷ ‵ (finally u64 γ₂ words′) ∷ ‵ (finally u32 γ₃ log′) ∷ ‵ (finally u32 γ₄ answers′) ∷ ‵ (P.the-row .own r (w ∷ [])) ∷ [])) (Post w)
   exits r w words′ log′ answers′ is len₂ len₃ len₄ =
-      qed W (‵ (flft κ₀ q₀) ∷ ‵ (flft κ₂ q₂) ∷ ‵ (flft κ₃ q₃) ∷ ‵ (flft κ₄ q₄) ∷ ‵ (ShrSlice (named 0) κ₀ u8 .own x₀ (s₀ ∷ [])) ∷ ‵ (finally u32 γ₂ words′) ∷ ‵ (finally u32 γ₃ log′) ∷ ‵ (finally u32 γ₄ answers′) ∷ ‵ (P.the-row .own r (w ∷ [])) ∷ []) ∵
+      qed W (‵ (flft κ₀ q₀) ∷ ‵ (flft κ₂ q₂) ∷ ‵ (flft κ₃ q₃) ∷ ‵ (flft κ₄ q₄) ∷ ‵ (ShrSlice (named 0) κ₀ u8 .own x₀ (s₀ ∷ [])) ∷ ‵ (finally u64 γ₂ words′) ∷ ‵ (finally u32 γ₃ log′) ∷ ‵ (finally u32 γ₄ answers′) ∷ ‵ (P.the-row .own r (w ∷ [])) ∷ []) ∵
       suffices ! _ (ends-at 𝓤 H A f.ended stayed (f.clauses 𝓤 H A mem run) W bound w r (tt, (tt, (words′, (log′, (answers′, (tt, tt)))))) (tt, (tt, (len₂, (len₃, (len₄, (tt, tt))))))) $ says ! is $
       nothing ! $ move ! (4 ∷ 0 ∷ []) $ join ! $ move ! (3 ∷ 0 ∷ []) $ join ! $ move ! (2 ∷ 0 ∷ []) $ join ! $ move ! (1 ∷ 0 ∷ []) $ join ! $ frame ! $ nothing ! $ owned ! S.the-row (Is S.the-row) (LL.makes S.the-type S′.the-plain 𝓤 H A) stroke _ stroke-is $ fjoin ! $ move ! (4 ∷ 0 ∷ []) $ fjoin ! $ move ! (3 ∷ 0 ∷ []) $ fjoin ! $ move ! (2 ∷ 0 ∷ []) $ fjoin ! $ owned ! D.the-row (Is D.the-row) (LL.makes D.the-type D′.the-plain 𝓤 H A) bench _ bench-is $ fjoin ! $ move ! (1 ∷ 0 ∷ []) $ fjoin ! $ frame ! $ done !
 
@@ -196,8 +196,8 @@ module _ {M : Type 1} (𝓤 : URA M) (H : Heap 𝓤) (A : Atoms 𝓤) (W : Given
   abbrev to-key : List Process → ℕ → ℕ → GName → OneKey 𝓤 H A mem run .Ghost
   to-key records l ν δ = (((κ₀, (ν ∷ [], (κ₂, (κ₃, (κ₄, tt))))), (q₀, (fullShare, (q₂, (q₃, (q₄, tt))))), tt, (x₀, (lent-as records l δ, (x₂, (x₃, (x₄, (stroke, tt)))))), (s₀ ∷ [], (sliceVal (l, 0) (length records) ∷ [], (s₂ ∷ [], (s₃ ∷ [], (s₄ ∷ [], (v-stroke ∷ [], tt))))))), tt)
 
-  goes-key : (records : List Process) (l ν : ℕ) (δ : GName) → ent 𝓤 (⋆ 𝓤 H A (‵ (flft κ₀ q₀) ∷ ‵ (flft (ν ∷ []) fullShare) ∷ ‵ (flft κ₂ q₂) ∷ ‵ (flft κ₃ q₃) ∷ ‵ (flft κ₄ q₄) ∷ ‵ (ShrSlice (named 0) κ₀ u8 .own x₀ (s₀ ∷ [])) ∷ ‵ (MutSlice (named 0) (ν ∷ []) R .own (lent-as records l δ) (sliceVal (l, 0) (length records) ∷ [])) ∷ ‵ (MutSlice (named 1) κ₂ u32 .own x₂ (s₂ ∷ [])) ∷ ‵ (MutSlice (named 2) κ₃ u32 .own x₃ (s₃ ∷ [])) ∷ ‵ (MutSlice (named 3) κ₄ u32 .own x₄ (s₄ ∷ [])) ∷ [])) (OneKey 𝓤 H A mem run .pre (to-key records l ν δ))
-  goes-key records l ν δ = qed W (‵ (flft κ₀ q₀) ∷ ‵ (flft (ν ∷ []) fullShare) ∷ ‵ (flft κ₂ q₂) ∷ ‵ (flft κ₃ q₃) ∷ ‵ (flft κ₄ q₄) ∷ ‵ (ShrSlice (named 0) κ₀ u8 .own x₀ (s₀ ∷ [])) ∷ ‵ (MutSlice (named 0) (ν ∷ []) R .own (lent-as records l δ) (sliceVal (l, 0) (length records) ∷ [])) ∷ ‵ (MutSlice (named 1) κ₂ u32 .own x₂ (s₂ ∷ [])) ∷ ‵ (MutSlice (named 2) κ₃ u32 .own x₃ (s₃ ∷ [])) ∷ ‵ (MutSlice (named 3) κ₄ u32 .own x₄ (s₄ ∷ [])) ∷ []) ∵ nothing ! $ move ! (5 ∷ 0 ∷ []) $ join ! $ move ! (4 ∷ 0 ∷ []) $ join ! $ move ! (3 ∷ 0 ∷ []) $ join ! $ move ! (2 ∷ 0 ∷ []) $ join ! $ move ! (1 ∷ 0 ∷ []) $ join ! $ nothing ! $ owned ! S.the-row (Is S.the-row) (LL.makes S.the-type S′.the-plain 𝓤 H A) stroke _ stroke-is $ fjoin ! $ move ! (6 ∷ 0 ∷ []) $ fjoin ! $ move ! (5 ∷ 0 ∷ []) $ fjoin ! $ move ! (4 ∷ 0 ∷ []) $ fjoin ! $ move ! (3 ∷ 0 ∷ []) $ fjoin ! $ move ! (2 ∷ 0 ∷ []) $ fjoin ! $ move ! (1 ∷ 0 ∷ []) $ join ! $ frame ! $ done !
+  goes-key : (records : List Process) (l ν : ℕ) (δ : GName) → ent 𝓤 (⋆ 𝓤 H A (‵ (flft κ₀ q₀) ∷ ‵ (flft (ν ∷ []) fullShare) ∷ ‵ (flft κ₂ q₂) ∷ ‵ (flft κ₃ q₃) ∷ ‵ (flft κ₄ q₄) ∷ ‵ (ShrSlice (named 0) κ₀ u8 .own x₀ (s₀ ∷ [])) ∷ ‵ (MutSlice (named 0) (ν ∷ []) R .own (lent-as records l δ) (sliceVal (l, 0) (length records) ∷ [])) ∷ ‵ (MutSlice (named 1) κ₂ u64 .own x₂ (s₂ ∷ [])) ∷ ‵ (MutSlice (named 2) κ₃ u32 .own x₃ (s₃ ∷ [])) ∷ ‵ (MutSlice (named 3) κ₄ u32 .own x₄ (s₄ ∷ [])) ∷ [])) (OneKey 𝓤 H A mem run .pre (to-key records l ν δ))
+  goes-key records l ν δ = qed W (‵ (flft κ₀ q₀) ∷ ‵ (flft (ν ∷ []) fullShare) ∷ ‵ (flft κ₂ q₂) ∷ ‵ (flft κ₃ q₃) ∷ ‵ (flft κ₄ q₄) ∷ ‵ (ShrSlice (named 0) κ₀ u8 .own x₀ (s₀ ∷ [])) ∷ ‵ (MutSlice (named 0) (ν ∷ []) R .own (lent-as records l δ) (sliceVal (l, 0) (length records) ∷ [])) ∷ ‵ (MutSlice (named 1) κ₂ u64 .own x₂ (s₂ ∷ [])) ∷ ‵ (MutSlice (named 2) κ₃ u32 .own x₃ (s₃ ∷ [])) ∷ ‵ (MutSlice (named 3) κ₄ u32 .own x₄ (s₄ ∷ [])) ∷ []) ∵ nothing ! $ move ! (5 ∷ 0 ∷ []) $ join ! $ move ! (4 ∷ 0 ∷ []) $ join ! $ move ! (3 ∷ 0 ∷ []) $ join ! $ move ! (2 ∷ 0 ∷ []) $ join ! $ move ! (1 ∷ 0 ∷ []) $ join ! $ nothing ! $ owned ! S.the-row (Is S.the-row) (LL.makes S.the-type S′.the-plain 𝓤 H A) stroke _ stroke-is $ fjoin ! $ move ! (6 ∷ 0 ∷ []) $ fjoin ! $ move ! (5 ∷ 0 ∷ []) $ fjoin ! $ move ! (4 ∷ 0 ∷ []) $ fjoin ! $ move ! (3 ∷ 0 ∷ []) $ fjoin ! $ move ! (2 ∷ 0 ∷ []) $ fjoin ! $ move ! (1 ∷ 0 ∷ []) $ join ! $ frame ! $ done !
 
   abbrev to-with-records : List Process → Outcome → Val → WithRecords 𝓤 H A mem run .Ghost
   to-with-records u o w = ((tt, tt, tt, (bench, (u, (o, tt))), (v-bench ∷ [], (array-vals vals u, (w ∷ [], tt)))), tt)
@@ -206,10 +206,10 @@ module _ {M : Type 1} (𝓤 : URA M) (H : Heap 𝓤) (A : Atoms 𝓤) (W : Given
   goes-with-records u o w ut ot = qed W (‵ ftrue ∷ []) ∵ nothing ! $ owned ! O.the-row (Is O.the-row) (LE.makes O.the-type O′.the-plain 𝓤 H A) o _ ot $ fjoin ! $ owned ! RA (Is RA) (array-makes 𝓤 H A W R (LL.makes T.the-type T′.the-plain 𝓤 H A) 16) u _ ut $ fjoin ! $ owned ! D.the-row (Is D.the-row) (LL.makes D.the-type D′.the-plain 𝓤 H A) bench _ bench-is $ fjoin ! $ move ! (1 ∷ 0 ∷ []) $ join ! $ frame ! $ done !
 
   module _ (C : Calls 𝓤 H) (Λ : Loops 𝓤 H) (fm : FmC 𝓤 H (W .laws) C) (known-records-of : Triple 𝓤 (C #bench-panel·records-of) (RecordsOf 𝓤 H A mem run)) (known-key : Triple 𝓤 (C #panel·key) (OneKey 𝓤 H A mem run)) (known-with-records : Triple 𝓤 (C #bench-panel·with-records) (WithRecords 𝓤 H A mem run)) where
-    walk : Room u8 (length file) → Room u32 (length words) → Room u32 (length log) → Room u32 (length answers)
+    walk : Room u8 (length file) → Room u64 (length words) → Room u32 (length log) → Room u32 (length answers)
         → ent 𝓤 (onEntry 𝓤 H A f.signature (κ₀, (κ₂, (κ₃, (κ₄, tt)))) (q₀, (q₂, (q₃, (q₄, tt)))) x at) (WpFn 𝓤 H C Λ code.function (s₀ ∷ v-bench ∷ s₂ ∷ s₃ ∷ s₄ ∷ v-stroke ∷ []) Post)
     walk room₀ room₂ room₃ room₄ =
-        qed W ((‵ (flft κ₀ q₀) ⊛ ‵ (flft κ₂ q₂) ⊛ ‵ (flft κ₃ q₃) ⊛ ‵ (flft κ₄ q₄) ⊛ ‵ ftrue) ∷ ‵ (owns (ShrSlice (named 0) κ₀ u8 ∷ D.the-row ∷ MutSlice (named 1) κ₂ u32 ∷ MutSlice (named 2) κ₃ u32 ∷ MutSlice (named 3) κ₄ u32 ∷ S.the-row ∷ []) x at) ∷ []) ∵ enter ! C Λ code.function (s₀ ∷ v-bench ∷ s₂ ∷ s₃ ∷ s₄ ∷ v-stroke ∷ []) _ $
+        qed W ((‵ (flft κ₀ q₀) ⊛ ‵ (flft κ₂ q₂) ⊛ ‵ (flft κ₃ q₃) ⊛ ‵ (flft κ₄ q₄) ⊛ ‵ ftrue) ∷ ‵ (owns (ShrSlice (named 0) κ₀ u8 ∷ D.the-row ∷ MutSlice (named 1) κ₂ u64 ∷ MutSlice (named 2) κ₃ u32 ∷ MutSlice (named 3) κ₄ u32 ∷ S.the-row ∷ []) x at) ∷ []) ∵ enter ! C Λ code.function (s₀ ∷ v-bench ∷ s₂ ∷ s₃ ∷ s₄ ∷ v-stroke ∷ []) _ $
         alloc1 ! (λ l₀. alloc1 ! (λ l₁. alloc1 ! (λ l₂. alloc1 ! (λ l₃. alloc1 ! (λ l₄. alloc1 ! (λ l₅. alloc1 ! (λ l₆. alloc1 ! (λ l₇. alloc1 ! (λ l₈. alloc1 ! (λ l₉. alloc1 ! (λ l₁₀. alloc1 ! (λ l₁₁. alloc1 ! (λ l₁₂. alloc1 ! (λ l₁₃. alloc1 ! (λ l₁₄. alloc1 ! (λ l₁₅. alloc1 ! (λ l₁₆. alloc1 ! (λ l₁₇. alloc0 ! $ params1 ! $
         pass1 ! (init ! 32 refl (tt, (tt, (record { fits = room₀ .0 }, tt)))) $ pass1 ! (init ! 30 refl (LL.lawful D.the-type D′.the-laws 𝓤 H A W .typed bench _ bench-is .0)) $ pass1 ! (init ! 28 refl (tt, (tt, (record { fits = room₂ .0 }, tt)))) $ pass1 ! (init ! 26 refl (tt, (tt, (record { fits = room₃ .0 }, tt)))) $ pass1 ! (init ! 24 refl (tt, (tt, (record { fits = room₄ .0 }, tt)))) $ pass1 ! (init ! 22 refl (LL.lawful S.the-type S′.the-laws 𝓤 H A W .typed stroke _ stroke-is .0)) $ pass0 ! $
         -- what the parameters own, and the tokens, are taken apart; what the file owns is had twice, for `key` and for the exit
@@ -269,7 +269,7 @@ module _ {M : Type 1} (𝓤 : URA M) (H : Heap 𝓤) (A : Atoms 𝓤) (W : Given
 module _ {M : Type 1} (𝓤 : URA M) (H : Heap 𝓤) (A : Atoms 𝓤) (W : Given 𝓤 H A) (mem : Memory → SProp 𝓤) (run : Routine → Fun 𝓤) where
   lend-records-walks : (C : Calls 𝓤 H) (Λ : Loops 𝓤 H) → FmC 𝓤 H (W .laws) (C) → Triple 𝓤 (C #bench-panel·records-of) (RecordsOf 𝓤 H A mem run) → Triple 𝓤 (C #panel·key) (OneKey 𝓤 H A mem run) → Triple 𝓤 (C #bench-panel·with-records) (WithRecords 𝓤 H A mem run) → Walks 𝓤 H A f.ended stayed (WpFn 𝓤 H C Λ code.function) (f.clauses 𝓤 H A mem run)
   lend-records-walks C Λ fm known-records-of known-key known-with-records = walked 𝓤 H A f.ended stayed (f.clauses 𝓤 H A mem run) (WpFn 𝓤 H C Λ code.function)
-      (λ κs. (slice-vals, (LL.vals D.the-type D′.the-laws, (slice-vals, (slice-vals, (slice-vals, (LL.vals S.the-type S′.the-laws, tt))))))) (λ κs. (shr-slice-tells (named 0) (κs .0) u8, (LL.tells D.the-type D′.the-laws, (mut-slice-tells (named 1) (κs .1 .0) u32, (mut-slice-tells (named 2) (κs .1 .1 .0) u32, (mut-slice-tells (named 3) (κs .1 .1 .1 .0) u32, (LL.tells S.the-type S′.the-laws, tt)))))))
+      (λ κs. (slice-vals, (LL.vals D.the-type D′.the-laws, (slice-vals, (slice-vals, (slice-vals, (LL.vals S.the-type S′.the-laws, tt))))))) (λ κs. (shr-slice-tells (named 0) (κs .0) u8, (LL.tells D.the-type D′.the-laws, (mut-slice-tells (named 1) (κs .1 .0) u64, (mut-slice-tells (named 2) (κs .1 .1 .0) u32, (mut-slice-tells (named 3) (κs .1 .1 .1 .0) u32, (LL.tells S.the-type S′.the-laws, tt)))))))
       (λ κs qs bounds a g are. via 𝓤 _ (fst∗ 𝓤 _ (emp 𝓤))
       (walk 𝓤 H A W mem run (κs .0) (κs .1 .0) (κs .1 .1 .0) (κs .1 .1 .1 .0) (qs .0) (qs .1 .0) (qs .1 .1 .0) (qs .1 .1 .1 .0)
       (a .0 .ptr .0) (a .0 .ptr .1) (a .0 .name) (a .0 .now) (a .1 .1 .0 .ptr .0) (a .1 .1 .0 .ptr .1) (a .1 .1 .0 .name) (a .1 .1 .0 .now) (a .1 .1 .1 .0 .ptr .0) (a .1 .1 .1 .0 .ptr .1) (a .1 .1 .1 .0 .name) (a .1 .1 .1 .0 .now) (a .1 .1 .1 .1 .0 .ptr .0) (a .1 .1 .1 .1 .0 .ptr .1) (a .1 .1 .1 .1 .0 .name) (a .1 .1 .1 .1 .0 .now) (a .1 .0) (only (LL.vals D.the-type D′.the-laws (a .1 .0))) (are .1 .0)
@@ -278,7 +278,7 @@ module _ {M : Type 1} (𝓤 : URA M) (H : Heap 𝓤) (A : Atoms 𝓤) (W : Given
 lend-records-meets : {M : Type 1} (𝓤 : URA M) (H : Heap 𝓤) (A : Atoms 𝓤) → Given 𝓤 H A → (mem : Memory → SProp 𝓤) (run : Routine → Fun 𝓤) (𝓣 : Tables 𝓤 H)
     → Triple 𝓤 (𝓣 .C #bench-panel·records-of) (RecordsOf 𝓤 H A mem run) → Triple 𝓤 (𝓣 .C #panel·key) (OneKey 𝓤 H A mem run) → Triple 𝓤 (𝓣 .C #bench-panel·with-records) (WithRecords 𝓤 H A mem run) → Meets 𝓤 H A f.signature (WpFn 𝓤 H (𝓣 .C) (𝓣 .Λ) code.function) (f.spec 𝓤 H A mem run)
 lend-records-meets 𝓤 H A W mem run 𝓣 known-records-of known-key known-with-records =
-    walk-meets 𝓤 H A f.ended stayed W (goes-none-slice 𝓤 H A W 4 (0 ∷ []) tt (plain (λ _. u8)) yes, (goes-none 𝓤 H A W 4 (λ _. D.the-row) yes (λ κs x f. refl), (goes-gave-slice 𝓤 H A W 4 1 tt (plain (λ _. u32)), (goes-gave-slice 𝓤 H A W 4 2 tt (plain (λ _. u32)), (goes-gave-slice 𝓤 H A W 4 3 tt (plain (λ _. u32)), (goes-none 𝓤 H A W 4 (λ _. S.the-row) yes (λ κs x f. refl), tt)))))) (f.clauses 𝓤 H A mem run)
+    walk-meets 𝓤 H A f.ended stayed W (goes-none-slice 𝓤 H A W 4 (0 ∷ []) tt (plain (λ _. u8)) yes, (goes-none 𝓤 H A W 4 (λ _. D.the-row) yes (λ κs x f. refl), (goes-gave-slice 𝓤 H A W 4 1 tt (plain (λ _. u64)), (goes-gave-slice 𝓤 H A W 4 2 tt (plain (λ _. u32)), (goes-gave-slice 𝓤 H A W 4 3 tt (plain (λ _. u32)), (goes-none 𝓤 H A W 4 (λ _. S.the-row) yes (λ κs x f. refl), tt)))))) (f.clauses 𝓤 H A mem run)
     (WpFn 𝓤 H (𝓣 .C) (𝓣 .Λ) code.function) (WpFn-mono 𝓤 H (W .laws) 𝓣 code.function) (lend-records-walks 𝓤 H A W mem run (𝓣 .C) (𝓣 .Λ) (fmOf 𝓤 H (W .laws) 𝓣) known-records-of known-key known-with-records)
 
 pub lend-records-spec : {M : Type 1} → stated.statement M

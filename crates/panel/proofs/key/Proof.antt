@@ -28,7 +28,7 @@ use denote.RattleType.{RattleType, owns}
 use denote.Memory.{shares}
 use denote.Laws.{Is, shows}
 use denote.Plain.{Nothing, nothing-lawful, uint-makes, uint-lawful}
-use denote.Builtin.{u8, u32, usize}
+use denote.Builtin.{u8, u32, u64, usize}
 use denote.Array.{Array, array-lawful, array-makes}
 use denote.Ref.{RefT}
 use denote.Slice.{sliceVal, MutSlice, ShrSlice, Room, finally, slice-vals, mut-slice-tells, shr-slice-tells, shr-slice-copy}
@@ -104,7 +104,7 @@ abbrev vals : Process → List Val
 vals = LL.vals T.the-type T′.the-laws
 
 abbrev stayed : Stays (f.ended .signature .params) (f.ended .kept)
-stayed = (stay-none-slice (0 ∷ []) tt (plain (λ _. u8)) yes, (gave-slice (1 ∷ []) tt (plain (λ _. R)), (gave-slice (2 ∷ []) tt (plain (λ _. u32)), (gave-slice (3 ∷ []) tt (plain (λ _. u32)), (gave-slice (4 ∷ []) tt (plain (λ _. u32)), (stay-none (λ _. S.the-row) yes, tt))))))
+stayed = (stay-none-slice (0 ∷ []) tt (plain (λ _. u8)) yes, (gave-slice (1 ∷ []) tt (plain (λ _. R)), (gave-slice (2 ∷ []) tt (plain (λ _. u64)), (gave-slice (3 ∷ []) tt (plain (λ _. u32)), (gave-slice (4 ∷ []) tt (plain (λ _. u32)), (stay-none (λ _. S.the-row) yes, tt))))))
 
 -- what whoever holds an `After` knows of its outcome (of a field that is an array of structs the like is not to be had: `processes_of` is called for it)
 outcome-is : (m : After) {w : Val} → Is N.the-row m (w ∷ []) → Is O.the-row (m .outcome) (LE.vals O.the-type O′.the-laws (m .outcome))
@@ -200,9 +200,9 @@ module _ {M : Type 1} (𝓤 : URA M) (H : Heap 𝓤) (A : Atoms 𝓤) (W : Given
   PressSays t = PressedOn file t words log answers stroke
 
   exits : (r : Outcome) (v : Val) (records′ : List Process) (words′ log′ answers′ : List ℕ) → Keyed file records words log answers stroke r records′ words′ log′ answers′ → length records′ ≡ length records → length words′ ≡ length words → length log′ ≡ length log → length answers′ ≡ length answers
-      → ent 𝓤 (⋆ 𝓤 H A (‵ (flft κ₀ q₀) ∷ ‵ (flft κ₁ q₁) ∷ ‵ (flft κ₂ q₂) ∷ ‵ (flft κ₃ q₃) ∷ ‵ (flft κ₄ q₄) ∷ ‵ (ShrSlice (named 0) κ₀ u8 .own x₀ (s₀ ∷ [])) ∷ ‵ (finally R γ₁ records′) ∷ ‵ (finally u32 γ₂ words′) ∷ ‵ (finally u32 γ₃ log′) ∷ ‵ (finally u32 γ₄ answers′) ∷ ‵ (O.the-row .own r (v ∷ [])) ∷ [])) (Post v)
+      → ent 𝓤 (⋆ 𝓤 H A (‵ (flft κ₀ q₀) ∷ ‵ (flft κ₁ q₁) ∷ ‵ (flft κ₂ q₂) ∷ ‵ (flft κ₃ q₃) ∷ ‵ (flft κ₄ q₄) ∷ ‵ (ShrSlice (named 0) κ₀ u8 .own x₀ (s₀ ∷ [])) ∷ ‵ (finally R γ₁ records′) ∷ ‵ (finally u64 γ₂ words′) ∷ ‵ (finally u32 γ₃ log′) ∷ ‵ (finally u32 γ₄ answers′) ∷ ‵ (O.the-row .own r (v ∷ [])) ∷ [])) (Post v)
   exits r v records′ words′ log′ answers′ is len₁ len₂ len₃ len₄ =
-      qed W (‵ (flft κ₀ q₀) ∷ ‵ (flft κ₁ q₁) ∷ ‵ (flft κ₂ q₂) ∷ ‵ (flft κ₃ q₃) ∷ ‵ (flft κ₄ q₄) ∷ ‵ (ShrSlice (named 0) κ₀ u8 .own x₀ (s₀ ∷ [])) ∷ ‵ (finally R γ₁ records′) ∷ ‵ (finally u32 γ₂ words′) ∷ ‵ (finally u32 γ₃ log′) ∷ ‵ (finally u32 γ₄ answers′) ∷ ‵ (O.the-row .own r (v ∷ [])) ∷ []) ∵
+      qed W (‵ (flft κ₀ q₀) ∷ ‵ (flft κ₁ q₁) ∷ ‵ (flft κ₂ q₂) ∷ ‵ (flft κ₃ q₃) ∷ ‵ (flft κ₄ q₄) ∷ ‵ (ShrSlice (named 0) κ₀ u8 .own x₀ (s₀ ∷ [])) ∷ ‵ (finally R γ₁ records′) ∷ ‵ (finally u64 γ₂ words′) ∷ ‵ (finally u32 γ₃ log′) ∷ ‵ (finally u32 γ₄ answers′) ∷ ‵ (O.the-row .own r (v ∷ [])) ∷ []) ∵
       suffices ! _ (ends-at 𝓤 H A f.ended stayed (f.clauses 𝓤 H A mem run) W bound v r (tt, (records′, (words′, (log′, (answers′, (tt, tt)))))) (tt, (len₁, (len₂, (len₃, (len₄, (tt, tt))))))) $ says ! is $
       nothing ! $ move ! (5 ∷ 0 ∷ []) $ join ! $ move ! (4 ∷ 0 ∷ []) $ join ! $ move ! (3 ∷ 0 ∷ []) $ join ! $ move ! (2 ∷ 0 ∷ []) $ join ! $ move ! (1 ∷ 0 ∷ []) $ join ! $ frame ! $ nothing ! $ owned ! S.the-row (Is S.the-row) (LL.makes S.the-type S′.the-plain 𝓤 H A) stroke _ stroke-is $ fjoin ! $ move ! (5 ∷ 0 ∷ []) $ fjoin ! $ move ! (4 ∷ 0 ∷ []) $ fjoin ! $ move ! (3 ∷ 0 ∷ []) $ fjoin ! $ move ! (2 ∷ 0 ∷ []) $ fjoin ! $ move ! (1 ∷ 0 ∷ []) $ fjoin ! $ frame ! $ done !
 
@@ -233,8 +233,8 @@ module _ {M : Type 1} (𝓤 : URA M) (H : Heap 𝓤) (A : Atoms 𝓤) (W : Given
   abbrev to-press : Table → Val → Press 𝓤 H A mem run .Ghost
   to-press t w = (((κ₀, (κ₂, (κ₃, (κ₄, tt)))), (q₀, (q₂, (q₃, (q₄, tt)))), tt, press-args t, (s₀ ∷ [], (w ∷ [], (s₂ ∷ [], (s₃ ∷ [], (s₄ ∷ [], (v-stroke ∷ [], tt))))))), tt)
 
-  goes-press : (t : Table) (w : Val) → Is B.the-row t (w ∷ []) → ent 𝓤 (⋆ 𝓤 H A (‵ (flft κ₀ q₀) ∷ ‵ (flft κ₂ q₂) ∷ ‵ (flft κ₃ q₃) ∷ ‵ (flft κ₄ q₄) ∷ ‵ (ShrSlice (named 0) κ₀ u8 .own x₀ (s₀ ∷ [])) ∷ ‵ (MutSlice (named 2) κ₂ u32 .own x₂ (s₂ ∷ [])) ∷ ‵ (MutSlice (named 3) κ₃ u32 .own x₃ (s₃ ∷ [])) ∷ ‵ (MutSlice (named 4) κ₄ u32 .own x₄ (s₄ ∷ [])) ∷ [])) (Press 𝓤 H A mem run .pre (to-press t w))
-  goes-press t w tt′ = qed W (‵ (flft κ₀ q₀) ∷ ‵ (flft κ₂ q₂) ∷ ‵ (flft κ₃ q₃) ∷ ‵ (flft κ₄ q₄) ∷ ‵ (ShrSlice (named 0) κ₀ u8 .own x₀ (s₀ ∷ [])) ∷ ‵ (MutSlice (named 2) κ₂ u32 .own x₂ (s₂ ∷ [])) ∷ ‵ (MutSlice (named 3) κ₃ u32 .own x₃ (s₃ ∷ [])) ∷ ‵ (MutSlice (named 4) κ₄ u32 .own x₄ (s₄ ∷ [])) ∷ []) ∵ nothing ! $ move ! (4 ∷ 0 ∷ []) $ join ! $ move ! (3 ∷ 0 ∷ []) $ join ! $ move ! (2 ∷ 0 ∷ []) $ join ! $ move ! (1 ∷ 0 ∷ []) $ join ! $ nothing ! $ owned ! S.the-row (Is S.the-row) (LL.makes S.the-type S′.the-plain 𝓤 H A) stroke _ stroke-is $ fjoin ! $ move ! (5 ∷ 0 ∷ []) $ fjoin ! $ move ! (4 ∷ 0 ∷ []) $ fjoin ! $ move ! (3 ∷ 0 ∷ []) $ fjoin ! $ owned ! B.the-row (Is B.the-row) (LL.makes B.the-type B′.the-plain 𝓤 H A) t _ tt′ $ fjoin ! $ move ! (2 ∷ 0 ∷ []) $ fjoin ! $ move ! (1 ∷ 0 ∷ []) $ join ! $ frame ! $ done !
+  goes-press : (t : Table) (w : Val) → Is B.the-row t (w ∷ []) → ent 𝓤 (⋆ 𝓤 H A (‵ (flft κ₀ q₀) ∷ ‵ (flft κ₂ q₂) ∷ ‵ (flft κ₃ q₃) ∷ ‵ (flft κ₄ q₄) ∷ ‵ (ShrSlice (named 0) κ₀ u8 .own x₀ (s₀ ∷ [])) ∷ ‵ (MutSlice (named 2) κ₂ u64 .own x₂ (s₂ ∷ [])) ∷ ‵ (MutSlice (named 3) κ₃ u32 .own x₃ (s₃ ∷ [])) ∷ ‵ (MutSlice (named 4) κ₄ u32 .own x₄ (s₄ ∷ [])) ∷ [])) (Press 𝓤 H A mem run .pre (to-press t w))
+  goes-press t w tt′ = qed W (‵ (flft κ₀ q₀) ∷ ‵ (flft κ₂ q₂) ∷ ‵ (flft κ₃ q₃) ∷ ‵ (flft κ₄ q₄) ∷ ‵ (ShrSlice (named 0) κ₀ u8 .own x₀ (s₀ ∷ [])) ∷ ‵ (MutSlice (named 2) κ₂ u64 .own x₂ (s₂ ∷ [])) ∷ ‵ (MutSlice (named 3) κ₃ u32 .own x₃ (s₃ ∷ [])) ∷ ‵ (MutSlice (named 4) κ₄ u32 .own x₄ (s₄ ∷ [])) ∷ []) ∵ nothing ! $ move ! (4 ∷ 0 ∷ []) $ join ! $ move ! (3 ∷ 0 ∷ []) $ join ! $ move ! (2 ∷ 0 ∷ []) $ join ! $ move ! (1 ∷ 0 ∷ []) $ join ! $ nothing ! $ owned ! S.the-row (Is S.the-row) (LL.makes S.the-type S′.the-plain 𝓤 H A) stroke _ stroke-is $ fjoin ! $ move ! (5 ∷ 0 ∷ []) $ fjoin ! $ move ! (4 ∷ 0 ∷ []) $ fjoin ! $ move ! (3 ∷ 0 ∷ []) $ fjoin ! $ owned ! B.the-row (Is B.the-row) (LL.makes B.the-type B′.the-plain 𝓤 H A) t _ tt′ $ fjoin ! $ move ! (2 ∷ 0 ∷ []) $ fjoin ! $ move ! (1 ∷ 0 ∷ []) $ join ! $ frame ! $ done !
 
   abbrev to-processes-of : After → ProcessesOf 𝓤 H A mem run .Ghost
   to-processes-of m = ((tt, tt, tt, (m, tt), (LL.vals N.the-type N′.the-laws m, tt)), tt)
@@ -249,10 +249,10 @@ module _ {M : Type 1} (𝓤 : URA M) (H : Heap 𝓤) (A : Atoms 𝓤) (W : Given
   goes-give n u w n-fits ut enough = qed W (‵ (flft κ₁ q₁) ∷ ‵ (MutSlice (named 1) κ₁ R .own x₁ (s₁ ∷ [])) ∷ []) ∵ says ! enough $ nothing ! $ move ! (1 ∷ 0 ∷ []) $ join ! $ frame ! $ nothing ! $ owned ! RA (Is RA) (array-makes 𝓤 H A W R (LL.makes T.the-type T′.the-plain 𝓤 H A) 16) u _ ut $ fjoin ! $ owned ! usize (Is usize) (uint-makes 𝓤 H A W w64) n _ (refl, n-fits) $ fjoin ! $ move ! (1 ∷ 0 ∷ []) $ fjoin ! $ done !
 
   module _ (C : Calls 𝓤 H) (Λ : Loops 𝓤 H) (fm : FmC 𝓤 H (W .laws) C) (known-held : Triple 𝓤 (C #panel·records·held) (HowMany 𝓤 H A mem run)) (known-take : Triple 𝓤 (C #panel·records·take) (Take 𝓤 H A mem run)) (known-table-of : Triple 𝓤 (C #panel·table-of) (TableOf 𝓤 H A mem run)) (known-press : Triple 𝓤 (C #panel·press·press) (Press 𝓤 H A mem run)) (known-processes-of : Triple 𝓤 (C #panel·processes-of) (ProcessesOf 𝓤 H A mem run)) (known-give : Triple 𝓤 (C #panel·records·give) (Give 𝓤 H A mem run)) where
-    walk : Room u8 (length file) → Room R (length records) → Room u32 (length words) → Room u32 (length log) → Room u32 (length answers)
+    walk : Room u8 (length file) → Room R (length records) → Room u64 (length words) → Room u32 (length log) → Room u32 (length answers)
         → ent 𝓤 (onEntry 𝓤 H A f.signature (κ₀, (κ₁, (κ₂, (κ₃, (κ₄, tt))))) (q₀, (q₁, (q₂, (q₃, (q₄, tt))))) x at) (WpFn 𝓤 H C Λ code.function (s₀ ∷ s₁ ∷ s₂ ∷ s₃ ∷ s₄ ∷ v-stroke ∷ []) Post)
     walk room₀ room₁ room₂ room₃ room₄ =
-        qed W ((‵ (flft κ₀ q₀) ⊛ ‵ (flft κ₁ q₁) ⊛ ‵ (flft κ₂ q₂) ⊛ ‵ (flft κ₃ q₃) ⊛ ‵ (flft κ₄ q₄) ⊛ ‵ ftrue) ∷ ‵ (owns (ShrSlice (named 0) κ₀ u8 ∷ MutSlice (named 1) κ₁ R ∷ MutSlice (named 2) κ₂ u32 ∷ MutSlice (named 3) κ₃ u32 ∷ MutSlice (named 4) κ₄ u32 ∷ S.the-row ∷ []) x at) ∷ []) ∵ enter ! C Λ code.function (s₀ ∷ s₁ ∷ s₂ ∷ s₃ ∷ s₄ ∷ v-stroke ∷ []) _ $
+        qed W ((‵ (flft κ₀ q₀) ⊛ ‵ (flft κ₁ q₁) ⊛ ‵ (flft κ₂ q₂) ⊛ ‵ (flft κ₃ q₃) ⊛ ‵ (flft κ₄ q₄) ⊛ ‵ ftrue) ∷ ‵ (owns (ShrSlice (named 0) κ₀ u8 ∷ MutSlice (named 1) κ₁ R ∷ MutSlice (named 2) κ₂ u64 ∷ MutSlice (named 3) κ₃ u32 ∷ MutSlice (named 4) κ₄ u32 ∷ S.the-row ∷ []) x at) ∷ []) ∵ enter ! C Λ code.function (s₀ ∷ s₁ ∷ s₂ ∷ s₃ ∷ s₄ ∷ v-stroke ∷ []) _ $
         alloc1 ! (λ l₀. alloc1 ! (λ l₁. alloc1 ! (λ l₂. alloc1 ! (λ l₃. alloc1 ! (λ l₄. alloc1 ! (λ l₅. alloc1 ! (λ l₆. alloc1 ! (λ l₇. alloc1 ! (λ l₈. alloc1 ! (λ l₉. alloc1 ! (λ l₁₀. alloc1 ! (λ l₁₁. alloc1 ! (λ l₁₂. alloc1 ! (λ l₁₃. alloc1 ! (λ l₁₄. alloc1 ! (λ l₁₅. alloc1 ! (λ l₁₆. alloc1 ! (λ l₁₇. alloc1 ! (λ l₁₈. alloc1 ! (λ l₁₉. alloc1 ! (λ l₂₀. alloc1 ! (λ l₂₁. alloc1 ! (λ l₂₂. alloc1 ! (λ l₂₃. alloc0 ! $ params1 ! $
         pass1 ! (init ! 44 refl (tt, (tt, (record { fits = room₀ .0 }, tt)))) $ pass1 ! (init ! 42 refl (tt, (tt, (record { fits = room₁ .0 }, tt)))) $ pass1 ! (init ! 40 refl (tt, (tt, (record { fits = room₂ .0 }, tt)))) $ pass1 ! (init ! 38 refl (tt, (tt, (record { fits = room₃ .0 }, tt)))) $ pass1 ! (init ! 36 refl (tt, (tt, (record { fits = room₄ .0 }, tt)))) $ pass1 ! (init ! 34 refl (LL.lawful S.the-type S′.the-laws 𝓤 H A W .typed stroke _ stroke-is .0)) $ pass0 ! $
         -- what the parameters own, and the tokens, are taken apart; what the file owns is had twice, for `press` and for the exit
@@ -328,7 +328,7 @@ module _ {M : Type 1} (𝓤 : URA M) (H : Heap 𝓤) (A : Atoms 𝓤) (W : Given
 module _ {M : Type 1} (𝓤 : URA M) (H : Heap 𝓤) (A : Atoms 𝓤) (W : Given 𝓤 H A) (mem : Memory → SProp 𝓤) (run : Routine → Fun 𝓤) where
   key-walks : (C : Calls 𝓤 H) (Λ : Loops 𝓤 H) → FmC 𝓤 H (W .laws) (C) → Triple 𝓤 (C #panel·records·held) (HowMany 𝓤 H A mem run) → Triple 𝓤 (C #panel·records·take) (Take 𝓤 H A mem run) → Triple 𝓤 (C #panel·table-of) (TableOf 𝓤 H A mem run) → Triple 𝓤 (C #panel·press·press) (Press 𝓤 H A mem run) → Triple 𝓤 (C #panel·processes-of) (ProcessesOf 𝓤 H A mem run) → Triple 𝓤 (C #panel·records·give) (Give 𝓤 H A mem run) → Walks 𝓤 H A f.ended stayed (WpFn 𝓤 H C Λ code.function) (f.clauses 𝓤 H A mem run)
   key-walks C Λ fm known-held known-take known-table-of known-press known-processes-of known-give = walked 𝓤 H A f.ended stayed (f.clauses 𝓤 H A mem run) (WpFn 𝓤 H C Λ code.function)
-      (λ κs. (slice-vals, (slice-vals, (slice-vals, (slice-vals, (slice-vals, (LL.vals S.the-type S′.the-laws, tt))))))) (λ κs. (shr-slice-tells (named 0) (κs .0) u8, (mut-slice-tells (named 1) (κs .1 .0) R, (mut-slice-tells (named 2) (κs .1 .1 .0) u32, (mut-slice-tells (named 3) (κs .1 .1 .1 .0) u32, (mut-slice-tells (named 4) (κs .1 .1 .1 .1 .0) u32, (LL.tells S.the-type S′.the-laws, tt)))))))
+      (λ κs. (slice-vals, (slice-vals, (slice-vals, (slice-vals, (slice-vals, (LL.vals S.the-type S′.the-laws, tt))))))) (λ κs. (shr-slice-tells (named 0) (κs .0) u8, (mut-slice-tells (named 1) (κs .1 .0) R, (mut-slice-tells (named 2) (κs .1 .1 .0) u64, (mut-slice-tells (named 3) (κs .1 .1 .1 .0) u32, (mut-slice-tells (named 4) (κs .1 .1 .1 .1 .0) u32, (LL.tells S.the-type S′.the-laws, tt)))))))
       (λ κs qs bounds a g are. via 𝓤 _ (fst∗ 𝓤 _ (emp 𝓤))
       (walk 𝓤 H A W mem run (κs .0) (κs .1 .0) (κs .1 .1 .0) (κs .1 .1 .1 .0) (κs .1 .1 .1 .1 .0) (qs .0) (qs .1 .0) (qs .1 .1 .0) (qs .1 .1 .1 .0) (qs .1 .1 .1 .1 .0)
       (a .0 .ptr .0) (a .0 .ptr .1) (a .0 .name) (a .0 .now) (a .1 .0 .ptr .0) (a .1 .0 .ptr .1) (a .1 .0 .name) (a .1 .0 .now) (a .1 .1 .0 .ptr .0) (a .1 .1 .0 .ptr .1) (a .1 .1 .0 .name) (a .1 .1 .0 .now) (a .1 .1 .1 .0 .ptr .0) (a .1 .1 .1 .0 .ptr .1) (a .1 .1 .1 .0 .name) (a .1 .1 .1 .0 .now) (a .1 .1 .1 .1 .0 .ptr .0) (a .1 .1 .1 .1 .0 .ptr .1) (a .1 .1 .1 .1 .0 .name) (a .1 .1 .1 .1 .0 .now)
@@ -337,7 +337,7 @@ module _ {M : Type 1} (𝓤 : URA M) (H : Heap 𝓤) (A : Atoms 𝓤) (W : Given
 key-meets : {M : Type 1} (𝓤 : URA M) (H : Heap 𝓤) (A : Atoms 𝓤) → Given 𝓤 H A → (mem : Memory → SProp 𝓤) (run : Routine → Fun 𝓤) (𝓣 : Tables 𝓤 H)
     → Triple 𝓤 (𝓣 .C #panel·records·held) (HowMany 𝓤 H A mem run) → Triple 𝓤 (𝓣 .C #panel·records·take) (Take 𝓤 H A mem run) → Triple 𝓤 (𝓣 .C #panel·table-of) (TableOf 𝓤 H A mem run) → Triple 𝓤 (𝓣 .C #panel·press·press) (Press 𝓤 H A mem run) → Triple 𝓤 (𝓣 .C #panel·processes-of) (ProcessesOf 𝓤 H A mem run) → Triple 𝓤 (𝓣 .C #panel·records·give) (Give 𝓤 H A mem run) → Meets 𝓤 H A f.signature (WpFn 𝓤 H (𝓣 .C) (𝓣 .Λ) code.function) (f.spec 𝓤 H A mem run)
 key-meets 𝓤 H A W mem run 𝓣 known-held known-take known-table-of known-press known-processes-of known-give =
-    walk-meets 𝓤 H A f.ended stayed W (goes-none-slice 𝓤 H A W 5 (0 ∷ []) tt (plain (λ _. u8)) yes, (goes-gave-slice 𝓤 H A W 5 1 tt (plain (λ _. R)), (goes-gave-slice 𝓤 H A W 5 2 tt (plain (λ _. u32)), (goes-gave-slice 𝓤 H A W 5 3 tt (plain (λ _. u32)), (goes-gave-slice 𝓤 H A W 5 4 tt (plain (λ _. u32)), (goes-none 𝓤 H A W 5 (λ _. S.the-row) yes (λ κs x f. refl), tt)))))) (f.clauses 𝓤 H A mem run)
+    walk-meets 𝓤 H A f.ended stayed W (goes-none-slice 𝓤 H A W 5 (0 ∷ []) tt (plain (λ _. u8)) yes, (goes-gave-slice 𝓤 H A W 5 1 tt (plain (λ _. R)), (goes-gave-slice 𝓤 H A W 5 2 tt (plain (λ _. u64)), (goes-gave-slice 𝓤 H A W 5 3 tt (plain (λ _. u32)), (goes-gave-slice 𝓤 H A W 5 4 tt (plain (λ _. u32)), (goes-none 𝓤 H A W 5 (λ _. S.the-row) yes (λ κs x f. refl), tt)))))) (f.clauses 𝓤 H A mem run)
     (WpFn 𝓤 H (𝓣 .C) (𝓣 .Λ) code.function) (WpFn-mono 𝓤 H (W .laws) 𝓣 code.function) (key-walks 𝓤 H A W mem run (𝓣 .C) (𝓣 .Λ) (fmOf 𝓤 H (W .laws) 𝓣) known-held known-take known-table-of known-press known-processes-of known-give)
 
 pub key-spec : {M : Type 1} → stated.statement M
