@@ -1,5 +1,5 @@
--- The twelve bench cases as one table (R260 to R272), and one statement, by computation: the definitions that `run`'s contract cites give on
--- each file what the table says (R295).
+-- The twelve bench cases as one table (R260 to R272), in both versions, and one statement, by computation: the definitions that `run`'s contract
+-- cites give on each file what the table says (R295).
 use Prim.Native.Nat.{ℕ}
 use mathlib.Core.Path.{_≡_, refl}
 use mathlib.Core.List.{List, [], _∷_, _++_, map}
@@ -27,17 +27,49 @@ joined (x ∷ xs) = x ++ joined xs
 times : ℕ → ℕ → List ℕ
 times n byte = replicate n byte
 
--- the eight bytes of a row that compares, and of one that reads (R10). All cases are on word 0, with values below 256
-compares : (p old new : ℕ) → List ℕ
-compares p old new = p ∷ 1 ∷ 0 ∷ 0 ∷ old ∷ 0 ∷ new ∷ 0 ∷ []
+-- the two forms of a case: a file of version 1, with its values as they are; and one of version 2, in which every value is 4,000,000,000 higher, so
+-- that none has room in 16 bits
+pub data Form : Type 0 where
+  narrow : Form
+  wide : Form
 
-reads : (p : ℕ) → List ℕ
-reads p = p ∷ 0 ∷ 0 ∷ 0 ∷ 0 ∷ 0 ∷ 0 ∷ 0 ∷ []
+version : Form → ℕ
+version narrow = 1
+version wide = 2
 
--- a file of P processes and one word that starts at 7 (R260): the header (R2), the word, the rows and the schedule
-file : (P : ℕ) → List (List ℕ) → List ℕ → List ℕ
-file P rows schedule =
-    0x53 ∷ 0x57 ∷ 0x52 ∷ 1 ∷ 0 ∷ P ∷ 1 ∷ length rows ∷ 0 ∷ length schedule ∷ 0 ∷ 7 ∷ 0 ∷ 0 ∷ 0 ∷ (joined rows ++ schedule)
+-- a value of a case, which is below 256, and its bytes as old, new or start value; and those of a read's old and new (R10)
+mark : Form → ℕ → ℕ
+mark narrow n = n
+mark wide n = 4000000000 + n
+
+bytesOf : Form → ℕ → List ℕ
+bytesOf narrow n = n ∷ 0 ∷ []
+bytesOf wide n = n ∷ 0x28 ∷ 0x6B ∷ 0xEE ∷ []
+
+zeros : Form → List ℕ
+zeros narrow = 0 ∷ 0 ∷ []
+zeros wide = 0 ∷ 0 ∷ 0 ∷ 0 ∷ []
+
+-- the bytes of a row that compares, and of one that reads (R10). All cases are on word 0
+compares : Form → (p old new : ℕ) → List ℕ
+compares v p old new = p ∷ 1 ∷ 0 ∷ 0 ∷ (bytesOf v old ++ bytesOf v new)
+
+reads : Form → (p : ℕ) → List ℕ
+reads v p = p ∷ 0 ∷ 0 ∷ 0 ∷ (zeros v ++ zeros v)
+
+-- a file of P processes and one word that starts at 7 with no flip bit (R260): the header (R2), the word, the rows and the schedule
+file : Form → (P : ℕ) → List (List ℕ) → List ℕ → List ℕ
+file v P rows schedule =
+    0x53 ∷ 0x57 ∷ 0x52 ∷ version v ∷ 0 ∷ P ∷ 1 ∷ length rows ∷ 0 ∷ length schedule ∷ 0 ∷ (bytesOf v 7 ++ (zeros v ++ (joined rows ++ schedule)))
+
+-- a final word: its flip bits from bit 32 up, and its value
+holds : Form → (flips value : ℕ) → ℕ
+holds v flips value = flips * 2 ^ 32 + mark v value
+
+-- where the first row stands
+rowsAt : Form → ℕ
+rowsAt narrow = 15
+rowsAt wide = 19
 
 -- what is lent: one word more than any case has, and one log and one answer row more than the longest schedule, 21 bytes. Whatever a
 -- run leaves alone is still 99
@@ -91,88 +123,92 @@ isRefused f number at =
     record { file = f; says = record { result = refused number at; words = lentWords; log = lentRows; answers = lentRows } }
 
 -- a: a swap from its start to its answer (R261)
-a : Case
-a = comesTo (file 1 (compares 0 7 8 ∷ []) (times 9 0x00)) (row 6 0 0 1 0 ∷ []) (row 8 0 0 1 0 ∷ []) 4294967304
+a : Form → Case
+a v = comesTo (file v 1 (compares v 0 7 8 ∷ []) (times 9 0x00)) (row 6 0 0 1 0 ∷ []) (row 8 0 0 1 0 ∷ []) (holds v 1 8)
 
 -- b: p0 crashes behind A1, and p1 has swapped to the very value that p0 wants: p0 gets fail (R262)
-b : Case
-b =
+b : Form → Case
+b v =
     comesTo
-    (file 2 (compares 0 7 8 ∷ compares 1 7 8 ∷ []) (joined (times 4 0x00 ∷ times 7 0x01 ∷ times 1 0x10 ∷ times 1 0x20 ∷ times 3 0x00 ∷ [])))
+    (file v 2 (compares v 0 7 8 ∷ compares v 1 7 8 ∷ []) (joined (times 4 0x00 ∷ times 7 0x01 ∷ times 1 0x10 ∷ times 1 0x20 ∷ times 3 0x00 ∷ [])))
     (row 10 1 1 1 0 ∷ [])
     (row 15 0 0 2 0 ∷ [])
-    8589934600
+    (holds v 2 8)
 
 -- c: a crash between A3 and A4: the checkpoint is set and nothing swapped, so fail (R263)
-c : Case
-c = comesTo (file 1 (compares 0 7 8 ∷ []) (joined (times 6 0x00 ∷ times 1 0x10 ∷ times 1 0x20 ∷ times 4 0x00 ∷ []))) [] (row 11 0 0 2 0 ∷ []) 7
+c : Form → Case
+c v = comesTo (file v 1 (compares v 0 7 8 ∷ []) (joined (times 6 0x00 ∷ times 1 0x10 ∷ times 1 0x20 ∷ times 4 0x00 ∷ []))) [] (row 11 0 0 2 0 ∷ []) (holds v 0 7)
 
 -- d: a crash straight behind A4: the flip bit tells that the swap was done, so true (R264)
-d : Case
-d =
+d : Form → Case
+d v =
     comesTo
-    (file 1 (compares 0 7 8 ∷ []) (joined (times 7 0x00 ∷ times 1 0x10 ∷ times 1 0x20 ∷ times 5 0x00 ∷ [])))
+    (file v 1 (compares v 0 7 8 ∷ []) (joined (times 7 0x00 ∷ times 1 0x10 ∷ times 1 0x20 ∷ times 5 0x00 ∷ [])))
     (row 6 0 0 1 0 ∷ [])
     (row 13 0 0 1 0 ∷ [])
-    4294967304
+    (holds v 1 8)
 
 -- e: as d, and another swap has changed the value since: still true (R265)
-e : Case
-e =
+e : Form → Case
+e v =
     comesTo
-    (file 2 (compares 0 7 8 ∷ compares 1 8 9 ∷ []) (joined (times 7 0x00 ∷ times 7 0x01 ∷ times 1 0x10 ∷ times 1 0x20 ∷ times 5 0x00 ∷ [])))
+    (file v 2 (compares v 0 7 8 ∷ compares v 1 8 9 ∷ []) (joined (times 7 0x00 ∷ times 7 0x01 ∷ times 1 0x10 ∷ times 1 0x20 ∷ times 5 0x00 ∷ [])))
     (row 6 0 0 1 0 ∷ row 13 1 1 1 0 ∷ [])
     (row 20 0 0 1 0 ∷ [])
-    12884901897
+    (holds v 3 9)
 
 -- f: a lost swap: it is logged behind the swap to which it lost (R266)
-f : Case
-f =
+f : Form → Case
+f v =
     comesTo
-    (file 2 (compares 0 7 8 ∷ compares 1 7 9 ∷ []) (joined (times 4 0x00 ∷ times 7 0x01 ∷ times 5 0x00 ∷ [])))
+    (file v 2 (compares v 0 7 8 ∷ compares v 1 7 9 ∷ []) (joined (times 4 0x00 ∷ times 7 0x01 ∷ times 5 0x00 ∷ [])))
     (row 10 1 1 1 0 ∷ row 10 0 0 0 0 ∷ [])
     (row 15 0 0 0 0 ∷ [])
-    8589934601
+    (holds v 2 9)
 
 -- g: as f, with a crash before the answer is stored: fail, and not in the log (R267)
-g : Case
-g =
+g : Form → Case
+g v =
     comesTo
-    (file 2 (compares 0 7 8 ∷ compares 1 7 9 ∷ []) (joined (times 4 0x00 ∷ times 7 0x01 ∷ times 3 0x00 ∷ times 1 0x10 ∷ times 1 0x20 ∷ times 4 0x00 ∷ [])))
+    (file v 2 (compares v 0 7 8 ∷ compares v 1 7 9 ∷ []) (joined (times 4 0x00 ∷ times 7 0x01 ∷ times 3 0x00 ∷ times 1 0x10 ∷ times 1 0x20 ∷ times 4 0x00 ∷ [])))
     (row 10 1 1 1 0 ∷ [])
     (row 19 0 0 2 0 ∷ [])
-    8589934601
+    (holds v 2 9)
 
 -- h: a read (R268)
-h : Case
-h = comesTo (file 1 (reads 0 ∷ []) (times 6 0x00)) (row 3 0 0 3 7 ∷ []) (row 5 0 0 3 7 ∷ []) 7
+h : Form → Case
+h v = comesTo (file v 1 (reads v 0 ∷ []) (times 6 0x00)) (row 3 0 0 3 (mark v 7) ∷ []) (row 5 0 0 3 (mark v 7) ∷ []) (holds v 0 7)
 
 -- i: a compare that finds another value (R269)
-i : Case
-i = comesTo (file 1 (compares 0 5 6 ∷ []) (times 6 0x00)) (row 3 0 0 0 0 ∷ []) (row 5 0 0 0 0 ∷ []) 7
+i : Form → Case
+i v = comesTo (file v 1 (compares v 0 5 6 ∷ []) (times 6 0x00)) (row 3 0 0 0 0 ∷ []) (row 5 0 0 0 0 ∷ []) (holds v 0 7)
 
 -- j: a crash of all, a step that changes nothing (R140), a wake that makes idle (R132), and N1 to N3 (R270)
-j : Case
-j = comesTo (file 1 (compares 0 7 8 ∷ []) (joined (times 1 0xF0 ∷ times 1 0x00 ∷ times 1 0x20 ∷ times 3 0x00 ∷ []))) [] [] 7
+j : Form → Case
+j v = comesTo (file v 1 (compares v 0 7 8 ∷ []) (joined (times 1 0xF0 ∷ times 1 0x00 ∷ times 1 0x20 ∷ times 3 0x00 ∷ []))) [] [] (holds v 0 7)
 
 -- k: as d, with a second crash when recovery has stored true: the second recovery returns it (R271)
-k : Case
-k =
+k : Form → Case
+k v =
     comesTo
     (file
+    v
     1
-    (compares 0 7 8 ∷ [])
+    (compares v 0 7 8 ∷ [])
     (joined (times 7 0x00 ∷ times 1 0x10 ∷ times 1 0x20 ∷ times 4 0x00 ∷ times 1 0x10 ∷ times 1 0x20 ∷ times 2 0x00 ∷ [])))
     (row 6 0 0 1 0 ∷ [])
     (row 16 0 0 1 0 ∷ [])
-    4294967304
+    (holds v 1 8)
 
 -- l: a compare that would swap a value for itself (R51, R272)
-l : Case
-l = isRefused (file 1 (compares 0 7 7 ∷ []) []) 11 15
+l : Form → Case
+l v = isRefused (file v 1 (compares v 0 7 7 ∷ []) []) 11 (rowsAt v)
+
+twelve : List (Form → Case)
+twelve = a ∷ b ∷ c ∷ d ∷ e ∷ f ∷ g ∷ h ∷ i ∷ j ∷ k ∷ l ∷ []
 
 pub table : List Case
-table = a ∷ b ∷ c ∷ d ∷ e ∷ f ∷ g ∷ h ∷ i ∷ j ∷ k ∷ l ∷ []
+table = map (λ x. x narrow) twelve ++ map (λ x. x wide) twelve
 
 -- what the contract of `run` says of a file over what is lent here
 pub ended : List ℕ → Ended
@@ -187,7 +223,7 @@ ended f =
 
 -- the statement: each file of the table ends as the table says (R295)
 pub cases : map (λ x. ended (x .file)) table ≡ map (λ x. x .says) table
-unfolding joined times compares reads file lentWords lentRows resultOf row comesTo isRefused a b c d e f g h i j k l table ended u16At u32At u64At widened marked headSize wordSize rowSize newPlace headerIn numberAt rowAt wordsOf rowsFrom tableOf rowNumbered first count names badField firstBadField sameFields badByte firstRow firstLaterRow firstByte refusalOf bitOf turnOf valueIn flipsIn bitIn swappedIn isSwapped onePast place insert isSwap firstSwap five infront spoken triedIn storingIn decideIn stepTurnIn turnIn apply applied procAt actIn stepIn afterIn begin endOf
+unfolding joined times version mark bytesOf zeros compares reads file holds rowsAt twelve lentWords lentRows resultOf row comesTo isRefused a b c d e f g h i j k l table ended u16At u32At u64At widened marked headSize wordSize rowSize newPlace headerIn numberAt rowAt wordsOf rowsFrom tableOf rowNumbered first count names badField firstBadField sameFields badByte firstRow firstLaterRow firstByte refusalOf bitOf turnOf valueIn flipsIn bitIn swappedIn isSwapped onePast place insert isSwap firstSwap five infront spoken triedIn storingIn decideIn stepTurnIn turnIn apply applied procAt actIn stepIn afterIn begin endOf
 cases = refl
 
 -- and `run` gives nothing else: whatever meets its contract on a file, over what is lent here, is what `ended` says

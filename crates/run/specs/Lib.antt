@@ -3,4 +3,4 @@ pub mod Promises
 pub mod Only
 pub mod Parts
 pub mod FirstBytes
-pub mod Widened
+pub mod Printed

@@ -9,7 +9,7 @@ use native.Mathlib.Nat.{add-assoc}
 use lib.Dec.{eqb}
 use lib.ListN.{drop}
 use lib.Seq.{getD-drop}
-use Rattle.runfile.specs.Format.{newPlace}
+use Rattle.runfile.specs.Format.{rowSize, newPlace}
 use Rattle.runfile.specs.Layout.{byteAt, u16At, u32At, numberAt, rowAt}
 use Rattle.runfile.specs.Operations.{rowsFrom}
 
@@ -80,3 +80,8 @@ module _ (f : List ℕ) (bytes : (at : ℕ) → byteAt f at < 256) where
   pub new-fits : (stride at : ℕ) → rowAt stride f at .new < 4294967296
   unfolding rowAt
   new-fits stride at = number-fits stride (at + newPlace stride)
+
+  -- in a row of version 1
+  pub narrow-fits : (at : ℕ) → rowAt (rowSize 1) f at .new < 65536
+  unfolding rowAt numberAt rowSize
+  narrow-fits at = u16-fits (at + newPlace (rowSize 1))

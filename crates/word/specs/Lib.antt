@@ -2,5 +2,4 @@ pub mod Word
 pub mod Bits
 pub mod Laws
 pub mod Widths
-pub mod Widened
 pub mod Promises
