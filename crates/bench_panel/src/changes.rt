@@ -25,14 +25,14 @@ fn put_records(out: &mut [u8], at: usize, before: [Process; 16], after: [Process
     next
 }
 
-fn put_changed_word(out: &mut [u8], at: usize, k: usize, before: u32, after: u32) -> usize {
+fn put_changed_word(out: &mut [u8], at: usize, k: usize, before: u64, after: u64) -> usize {
     if before == after {
         return at;
     }
     lines::put_word(out, at, k, after)
 }
 
-fn put_changed_words(out: &mut [u8], at: usize, before: [u32; 16], after: [u32; 16]) -> usize {
+fn put_changed_words(out: &mut [u8], at: usize, before: [u64; 16], after: [u64; 16]) -> usize {
     let mut next = at;
     let mut k = 0;
     while k < 16 {

@@ -26,7 +26,7 @@ ghost use mathlib.Core.Path.{_≡_};
 // and in the answers. The rows themselves stand in two buffers that are lent.
 pub struct Bench {
     pub records: [Process; 16],
-    pub words: [u32; 16],
+    pub words: [u64; 16],
     pub position: usize,
     pub log: usize,
     pub answers: usize,
@@ -103,7 +103,7 @@ fn with_records(bench: Bench, records: [Process; 16], outcome: Outcome) -> Press
 fn lend_records(
     file: &[u8],
     bench: Bench,
-    words: &mut [u32],
+    words: &mut [u64],
     log: &mut [u32],
     answers: &mut [u32],
     key: Stroke,
@@ -224,19 +224,19 @@ fn take_lines(file: &[u8], first: Bench, out: &mut [u8], log: &mut [u32], answer
 }
 
 // The words that the file starts from.
-fn start_words(file: &[u8], header: Header) -> [u32; 16]
+fn start_words(file: &[u8], header: Header) -> [u64; 16]
     requires { ⌜ Lawful header (now file) ample ⌝ }
 {
     let count = runfile::index8(header.words);
-    let mut words = [0u32; 16];
+    let mut words = [0u64; 16];
     run::load_words(file, header, &mut words[..count]);
     words
 }
 
 // The panel over a file that is accepted: all processes idle, nothing logged and nothing answered.
-fn start(file: &[u8], header: Header, words: [u32; 16]) {
-    // Room for the lines of a key, whatever it changes: a first line of at most 22 bytes; six of at most 30 for each of
-    // sixteen processes; one of 20 for each of sixteen words; a log row of 32 and an answer row of 27. That is 3,281 bytes.
+fn start(file: &[u8], header: Header, words: [u64; 16]) {
+    // Room for the lines of a key, whatever it changes: a first line of at most 22 bytes; six of at most 35 for each of
+    // sixteen processes; one of 30 for each of sixteen words; a log row of 37 and an answer row of 32. That is 3,931 bytes.
     let mut out = [0u8; 4096];
     // 1,024 rows of each kind: a key at a position over 1,023 is refused, and a key adds one row at most.
     let mut log = [0u32; 5120];

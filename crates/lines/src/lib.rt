@@ -17,7 +17,7 @@ fn wide(n: u32) -> u64 {
 }
 
 // Puts the line of one word: its number, its value and its flip bits as one number (R192).
-pub fn put_word(out: &mut [u8], at: usize, number: usize, word: u32) -> usize {
+pub fn put_word(out: &mut [u8], at: usize, number: usize, word: u64) -> usize {
     let mut next = put_name(out, at, b"word");
     next = put_number(out, next, number as u64);
     next = put_number(out, next, wide(word::value_of(word)));
@@ -26,7 +26,7 @@ pub fn put_word(out: &mut [u8], at: usize, number: usize, word: u32) -> usize {
 }
 
 // Puts the lines of the first `count` words. The buffer may hold more words than the run has.
-pub fn put_words(out: &mut [u8], at: usize, words: &[u32], count: usize) -> usize {
+pub fn put_words(out: &mut [u8], at: usize, words: &[u64], count: usize) -> usize {
     let mut next = at;
     let mut k = 0;
     while k < count {
@@ -97,7 +97,7 @@ pub fn put_outcome(
     out: &mut [u8],
     file: &[u8],
     outcome: Outcome,
-    words: &[u32],
+    words: &[u64],
     log: &[u32],
     answers: &[u32],
 ) -> usize {

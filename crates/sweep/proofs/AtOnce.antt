@@ -7,7 +7,7 @@ use native.Mathlib.Numerals.{add-one}
 use native.Mathlib.Nat.{add-suc, add-mul, mul-assoc, mul-comm, mod-lt, mod-eq-of-lt, mod-add-div, add-mod-mod, add-mul-mod-self-left}
 use lib.ListN.{length, take, drop, getD, drop-of-length-le, take-append-drop}
 use lib.Seq.{drop-cons, drop-drop}
-use Rattle.sweep.specs.Sum.{factor, modulus, taken, sumFrom}
+use Rattle.sweep.specs.Sum.{factor, modulus, taken, sumFrom, half, halves}
 use Rattle.sweep.specs.Blocks.{power, weighed, Weighs}
 
 -- a factor may be taken by the modulus first
@@ -99,3 +99,13 @@ module _ (xs : List ℕ) (i : ℕ) where
     pub over : length xs ≤ i → s ≡ all
     unfolding sumFrom
     over h = rw (drop-of-length-le xs h) at kept
+
+  -- and the same of words, of which a turn takes one, that is two numbers
+  module _ (s all : ℕ) (kept : sumFrom s (halves (drop i xs)) ≡ all) where
+    pub word-more : (x y : ℕ) → i < length xs → x ≡ getD xs i 0 % half → y ≡ getD xs i 0 / half → sumFrom (((s * factor + x) % modulus * factor + y) % modulus) (halves (drop (i + 1) xs)) ≡ all
+    unfolding sumFrom taken halves
+    word-more x y h ex ey = rw (ex, ey) (rw (first h) at kept)
+
+    pub words-over : length xs ≤ i → s ≡ all
+    unfolding sumFrom halves
+    words-over h = rw (drop-of-length-le xs h) at kept

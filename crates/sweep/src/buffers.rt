@@ -1,8 +1,8 @@
 // What stands in a lent buffer before a run, and the sum over it afterwards.
 ghost use mathlib.Core.Path.{_≡_};
-ghost use Prim.Native.Nat.{_+_, _≤_, _<_};
+ghost use Prim.Native.Nat.{_+_, _/_, _%_, _≤_, _<_};
 ghost use lib.ListN.{length};
-ghost use Rattle.sweep.specs.Sum.{Summed};
+ghost use Rattle.sweep.specs.Sum.{half, Summed, SummedWords};
 ghost use Rattle.sweep.specs.Blocks.{Weighs};
 
 // The sum's factor and modulus, the largest prime below 2^32; and the powers of the factor, each by the modulus.
@@ -24,6 +24,9 @@ const F7: u64 = F6 * F1 % MODULUS;
 
 const F8: u64 = F7 * F1 % MODULUS;
 
+// How many numbers 32 bits hold.
+const HALF: u64 = 1 << 32;
+
 // Fills a buffer with numbers that rise by one, from the given one on.
 pub fn fill(buffer: &mut [u32], first: u32) {
     let mut number = first;
@@ -31,6 +34,18 @@ pub fn fill(buffer: &mut [u32], first: u32) {
     while i < buffer.len() {
         let present = number;
         number = std::num::wrapping_add_u32(number, 1);
+        buffer[i] = present;
+        i += 1;
+    }
+}
+
+// Likewise a buffer of words, which are numbers of 64 bits.
+pub fn fill_words(buffer: &mut [u64], first: u64) {
+    let mut number = first;
+    let mut i = 0;
+    while i < buffer.len() {
+        let present = number;
+        number = std::num::wrapping_add_u64(number, 1);
         buffer[i] = present;
         i += 1;
     }
@@ -71,6 +86,34 @@ pub fn sum_over(before: u64, buffer: &[u32]) -> u64
     }
     while i < buffer.len() {
         sum = (sum * F1 + wide(buffer[i])) % MODULUS;
+        i += 1;
+    }
+    sum
+}
+
+// A word is two numbers in the sum: its low 32 bits, and its high 32 bits.
+fn low(word: u64) -> u64
+    ensures { λ r. ⌜ (r ≡ word % half) × (r < half) ⌝ }
+{
+    word % HALF
+}
+
+fn high(word: u64) -> u64
+    ensures { λ r. ⌜ (r ≡ word / half) × (r < half) ⌝ }
+{
+    word / HALF
+}
+
+// Goes on with a sum over a buffer of words, number by number: there are few of them.
+pub fn sum_over_words(before: u64, buffer: &[u64]) -> u64
+    ensures { λ r. ⌜ SummedWords before (now (buffer .entry)) r ⌝ }
+{
+    let mut sum = before % MODULUS;
+    let mut i = 0;
+    while i < buffer.len() {
+        let word = buffer[i];
+        sum = (sum * F1 + low(word)) % MODULUS;
+        sum = (sum * F1 + high(word)) % MODULUS;
         i += 1;
     }
     sum

@@ -8,7 +8,12 @@
 mod buffers;
 
 use buffers::fill;
+use buffers::fill_words;
 use buffers::sum_over;
+use buffers::sum_over_words;
+
+// What the first number of the words buffer is before a run: 3,235,774,464 in both halves.
+const FIRST_WORD: u64 = 3235774464 * 4294967296 + 3235774464;
 
 // The four numbers that a record begins with.
 struct Lengths {
@@ -52,8 +57,8 @@ fn next_lengths() -> Next {
 }
 
 // Puts the line of the sum over the three buffers.
-fn put_sum(out: &mut [u8], at: usize, words: &[u32], log: &[u32], answers: &[u32]) -> usize {
-    let mut sum = sum_over(1, words);
+fn put_sum(out: &mut [u8], at: usize, words: &[u64], log: &[u32], answers: &[u32]) -> usize {
+    let mut sum = sum_over_words(1, words);
     sum = sum_over(sum, log);
     sum = sum_over(sum, answers);
     let mut next = lines::put_name(out, at, b"sum");
@@ -66,11 +71,11 @@ fn put_sum(out: &mut [u8], at: usize, words: &[u32], log: &[u32], answers: &[u32
 fn put_record(
     out: &mut [u8],
     file: &[u8],
-    words: &mut [u32],
+    words: &mut [u64],
     log: &mut [u32],
     answers: &mut [u32],
 ) -> usize {
-    fill(words, 3235774464);
+    fill_words(words, FIRST_WORD);
     fill(log, 274726912);
     fill(answers, 2768240640);
     let outcome = run::run(file, words, log, answers);
@@ -83,7 +88,7 @@ fn put_record(
 fn sweep_file(
     out: &mut [u8],
     file: &mut [u8],
-    words: &mut [u32],
+    words: &mut [u64],
     log: &mut [u32],
     answers: &mut [u32],
 ) -> bool {
@@ -100,7 +105,7 @@ fn sweep_record(
     lengths: Lengths,
     out: &mut [u8],
     file: &mut [u8],
-    words: &mut [u32],
+    words: &mut [u64],
     log: &mut [u32],
     answers: &mut [u32],
 ) -> bool {
@@ -138,7 +143,7 @@ fn complain() {
 fn sweep_next(
     out: &mut [u8],
     file: &mut [u8],
-    words: &mut [u32],
+    words: &mut [u64],
     log: &mut [u32],
     answers: &mut [u32],
 ) -> bool {
@@ -159,7 +164,7 @@ fn sweep_next(
 }
 
 // Goes through the stream. One that never ends is left after 2^32 - 1 records, since every Rattle program ends.
-fn sweep(out: &mut [u8], file: &mut [u8], words: &mut [u32], log: &mut [u32], answers: &mut [u32]) {
+fn sweep(out: &mut [u8], file: &mut [u8], words: &mut [u64], log: &mut [u32], answers: &mut [u32]) {
     let mut left = 4294967295u32;
     while left > 0 {
         if sweep_next(out, file, words, log, answers) {
@@ -171,11 +176,11 @@ fn sweep(out: &mut [u8], file: &mut [u8], words: &mut [u32], log: &mut [u32], an
 }
 
 fn main() {
-    // Room for the longest outcome (52,563 bytes, see `swr`) and its line of the sum.
+    // Room for the longest outcome (62,963 bytes, see `swr`) and its line of the sum.
     let mut out = [0u8; 65536];
     // The most that a record may ask for.
-    let mut file = [0u8; 6000];
-    let mut words = [0u32; 40];
+    let mut file = [0u8; 8000];
+    let mut words = [0u64; 40];
     let mut log = [0u32; 5200];
     let mut answers = [0u32; 5200];
     sweep(&mut out, &mut file, &mut words, &mut log, &mut answers);
