@@ -1,6 +1,6 @@
 -- The twelve bench cases as one table (R260 to R272), in both versions, and one statement, by computation: the definitions that `run`'s contract
 -- cites give on each file what the table says (R295).
-use Prim.Native.Nat.{ℕ}
+use Prim.Native.Nat.{ℕ, _+_, _*_, _^_}
 use mathlib.Core.Path.{_≡_, refl}
 use mathlib.Core.List.{List, [], _∷_, _++_, map}
 use lib.ListN.{length, replicate}
