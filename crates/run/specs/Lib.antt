@@ -4,3 +4,4 @@ pub mod Only
 pub mod Parts
 pub mod FirstBytes
 pub mod Printed
+pub mod Transcribed

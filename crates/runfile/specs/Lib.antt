@@ -16,3 +16,4 @@ pub mod Exactly
 pub mod Promises
 pub mod Instances
 pub mod Enough
+pub mod Transcribed
