@@ -1,23 +1,27 @@
 -- A file of version 1 and its transcription to version 2 come to the same outcome with the same buffers (`same-run`): they are checked alike, and
 -- the run takes the words, the rows and the schedule alone, which are the same. Where both are refused, the number is the same and the places go together.
-use Prim.Native.Nat.{ℕ}
+use Prim.Native.Nat.{ℕ, zero, suc, _+_, _<_}
 use mathlib.Core.Path.{_≡_, refl, sym, ap, subst, _∙_}
-use mathlib.Core.List.{List}
+use mathlib.Core.List.{List, [], _∷_}
+use native.Mathlib.Omega.{arith}
 use lib.ListN.{length}
 use Rattle.runfile.specs.declared.Header.{Header}
 use Rattle.runfile.specs.declared.Row.{Row}
-use Rattle.runfile.specs.declared.Refusal.{Refusal}
+use Rattle.runfile.specs.declared.Room.{Room}
+use Rattle.runfile.specs.declared.Refusal.the-variants as refusal
 use Rattle.runfile.specs.declared.Checked.{Checked}
 use Rattle.runfile.specs.declared.Checked.the-variants as checked
-use Rattle.runfile.specs.Layout.{headerIn, scheduleIn}
+use Rattle.runfile.specs.Format.{headSize, wordSize, rowSize, newPlace}
+use Rattle.runfile.specs.Layout.{u16At, u32At, u64At, widened, marked, headerIn, numberAt, rowAt, scheduleIn}
 use Rattle.runfile.specs.Operations.{wordsOf, tableOf}
-use Rattle.runfile.specs.Refusals.{refusalOf}
+use Rattle.runfile.specs.Refusals.{badField, sameFields, badByte, firstBadField, firstRow, firstLaterRow, firstByte, refusalOf}
+use Rattle.runfile.specs.Table.{rowOf, zeroByteOf}
 use Rattle.runfile.specs.Transcribed.{Transcribes, SamePlace, CheckedAlike, checked-alike, tables-alike}
 use Rattle.rows.specs.Buffers.{flat, infront}
 use Rattle.machine.specs.Machine.{State, begin, after}
 use Rattle.run.specs.declared.Outcome.{Outcome}
 use Rattle.run.specs.declared.Outcome.the-variants as outcome
-use Rattle.run.specs.Run.{endOf, roomOf, outcomeOf, wordsLeft, logLeft, answersLeft, EndsAs, Ends}
+use Rattle.run.specs.Run.{endOf, roomOf, outcomeOf, wordsLeft, logLeft, answersLeft, Ends}
 
 -- the same numbers of rows; or the same refusal, at places that go together
 abbrev pub OutcomesAlike : Header → Header → Outcome → Outcome → Type 0
@@ -75,3 +79,65 @@ module _ (f g words log answers : List ℕ) (t : Transcribes f g) where
         log-is = d .log-is ∙ x .log-is ∙ sym (e .log-is);
         answers-are = d .answers-are ∙ x .answers-are ∙ sym (e .answers-are);
       }
+
+-- Two files that are so, by computation: one word at 7 with the flip bit of process 0, two rows that would swap it, and a schedule of twelve bytes.
+-- With 9 as the second row's new both are accepted; with 7 both are refused by 11, at 23 and at 31, where that row begins.
+abbrev schedule : List ℕ
+schedule = 0 ∷ 0 ∷ 1 ∷ 1 ∷ 1 ∷ 1 ∷ 1 ∷ 0 ∷ 0 ∷ 0 ∷ 0 ∷ 0 ∷ []
+
+abbrev narrowFile : ℕ → List ℕ
+narrowFile new = 83 ∷ 87 ∷ 82 ∷ 1 ∷ 0 ∷ 2 ∷ 1 ∷ 2 ∷ 0 ∷ 12 ∷ 0 ∷ 7 ∷ 0 ∷ 1 ∷ 0 ∷ 0 ∷ 1 ∷ 0 ∷ 0 ∷ 7 ∷ 0 ∷ 8 ∷ 0 ∷ 1 ∷ 1 ∷ 0 ∷ 0 ∷ 7 ∷ 0 ∷ new ∷ 0 ∷ schedule
+
+abbrev wideFile : ℕ → List ℕ
+wideFile new =
+    83 ∷ 87 ∷ 82 ∷ 2 ∷ 0 ∷ 2 ∷ 1 ∷ 2 ∷ 0 ∷ 12 ∷ 0 ∷ 7 ∷ 0 ∷ 0 ∷ 0 ∷ 1 ∷ 0 ∷ 0 ∷ 0 ∷ 0 ∷ 1 ∷ 0 ∷ 0 ∷ 7 ∷ 0 ∷ 0 ∷ 0 ∷ 8 ∷ 0 ∷ 0 ∷ 0
+    ∷ 1 ∷ 1 ∷ 0 ∷ 0 ∷ 7 ∷ 0 ∷ 0 ∷ 0 ∷ new ∷ 0 ∷ 0 ∷ 0 ∷ schedule
+
+abbrev second : ℕ → Row
+second new = record { process = 1; kind = 1; word = 0; old = 7; new = new }
+
+-- two more bytes that are 0
+padded : (new : ℕ) → new + 0 ≡ new + 0 + 0 + 0
+padded new = omega arith
+
+row : (new k : ℕ) → k < 2 → rowOf (headerIn (narrowFile new)) (narrowFile new) k ≡ rowOf (headerIn (wideFile new)) (wideFile new) k
+unfolding headSize wordSize rowSize newPlace headerIn u16At u32At numberAt rowAt
+row new zero l = refl
+row new (suc zero) l = ap second (padded new)
+row new (suc (suc k)) l = absurd (omega arith)
+
+zero-byte : (new k : ℕ) → k < 2 → zeroByteOf (headerIn (narrowFile new)) (narrowFile new) k ≡ zeroByteOf (headerIn (wideFile new)) (wideFile new) k
+unfolding headSize wordSize rowSize headerIn u16At
+zero-byte new zero l = refl
+zero-byte new (suc zero) l = refl
+zero-byte new (suc (suc k)) l = absurd (omega arith)
+
+pub transcribed : (new : ℕ) → Transcribes (narrowFile new) (wideFile new)
+unfolding headSize wordSize rowSize newPlace headerIn u16At u32At u64At widened marked numberAt rowAt wordsOf
+transcribed new = record {
+  first = refl;
+  second = refl;
+  long = omega arith;
+  wide-long = omega arith;
+  marks = refl;
+  processes = refl;
+  words = refl;
+  rows = refl;
+  steps = refl;
+  lengths = refl;
+  start-words = refl;
+  row = row new;
+  zero-byte = zero-byte new;
+  schedule = refl;
+}
+
+abbrev room : Room
+room = record { words = 1; log = 60; answers = 60 }
+
+pub both-accepted : (refusalOf (narrowFile 9) room ≡ checked.Accepted (headerIn (narrowFile 9))) × (refusalOf (wideFile 9) room ≡ checked.Accepted (headerIn (wideFile 9)))
+unfolding refusalOf headSize wordSize rowSize newPlace headerIn u16At u32At marked numberAt rowAt badField sameFields badByte firstBadField firstRow firstLaterRow firstByte
+both-accepted = (refl, refl)
+
+pub both-refused : (refusalOf (narrowFile 7) room ≡ checked.Refused refusal.Same 23) × (refusalOf (wideFile 7) room ≡ checked.Refused refusal.Same 31)
+unfolding refusalOf headSize wordSize rowSize newPlace headerIn u16At u32At marked numberAt rowAt badField sameFields badByte firstBadField firstRow firstLaterRow firstByte
+both-refused = (refl, refl)

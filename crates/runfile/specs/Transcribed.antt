@@ -25,7 +25,7 @@ use Rattle.runfile.specs.Layout.{marked, headerIn, rowsStart, strideOf, 
 use Rattle.runfile.specs.Fields.{fields, fieldAt}
 use Rattle.runfile.specs.Kinds.{kindOf}
 use Rattle.runfile.specs.Operations.{wordsOf, rowsFrom, tableOf}
-use Rattle.runfile.specs.Refusals.{unknownVersion, outOfRange, zeroOld, zeroNew, badKind, badNumber, badField, badIn, sameFields, same, below, badByte, offendsAt, orLater, firstFound, foundIf, badFieldIn, firstBadField, firstRow, firstLaterRow, firstByte, whole, found, orElse, firstOf, inOrder, refusalOf}
+use Rattle.runfile.specs.Refusals.{unknownVersion, outOfRange, zeroOld, zeroNew, badNumber, badField, badIn, sameFields, same, below, badByte, orLater, firstFound, foundIf, badFieldIn, firstBadField, firstRow, firstLaterRow, firstByte, whole, found, orElse, firstOf, inOrder, refusalOf}
 use Rattle.runfile.specs.Table.{rowOf, zeroByteOf}
 
 -- f is a file of version 1, and g the same in version 2: the same mark and counts, the words as they are read, the rows and the schedule;
