@@ -1,4 +1,4 @@
--- The first bytes of a file decide: whatever `run` gives and leaves, lent the first 5,196 bytes of a file, it gives and leaves for the whole file.
+-- The first bytes of a file decide: whatever `run` gives and leaves, lent as many of the first bytes of a file as decide, it gives and leaves for the whole file.
 -- A file that is accepted has no more bytes than that; one that is refused is refused alike (`decided`), and a refusal depends on nothing else.
 use Prim.Native.Nat.{ℕ, _≤_}
 use mathlib.Core.Path.{_≡_, refl, sym, subst, _∙_}
