@@ -22,7 +22,7 @@ use Rattle.replay.specs.Logs.{early}
 use Rattle.replay.specs.Replay.{final}
 use native.Mathlib.Omega.{arith}
 use Rattle.demand3.specs.Statement.{of, Once, Logged}
-use Rattle.demand3.specs.Invariant.{Ended, due, Times, matches, says, HasSwap, Seen, Since, Reading, Pending, won, held, lost, AtStage, working, StatusOk, IsOpen, Local}
+use Rattle.demand3.specs.Invariant.{Settled, due, Times, matches, says, HasSwap, Seen, Since, Reading, Pending, won, held, lost, AtStage, working, StatusOk, IsOpen, Local}
 
 pub once-alone : {p k : ℕ} {m : Maybe} {l l′ : List Entry} → of k l′ ≡ of k l → Once p k m l → Once p k m l′
 once-alone e o = record { entry = o .entry; once = e ∙ o .once; process = o .process; says-so = o .says-so }
@@ -31,7 +31,7 @@ pub logged-alone : (p k : ℕ) (l l′ : List Entry) (m : Maybe) → of k l′ �
 logged-alone p k l l′ None e o = e ∙ o
 logged-alone p k l l′ (Is a) e o = once-alone e o
 
-pub ended-alone : {p k : ℕ} {l l′ m m′ : List Entry} → of k l′ ≡ of k l → of k m′ ≡ of k m → Ended p k l m → Ended p k l′ m′
+pub ended-alone : {p k : ℕ} {l l′ m m′ : List Entry} → of k l′ ≡ of k l → of k m′ ≡ of k m → Settled p k l m → Settled p k l′ m′
 ended-alone {p} {k} {l} {l′} e f d = record { answer = d .answer; answered = once-alone f (d .answered); logged = logged-alone p k l l′ (d .answer) e (d .logged) }
 
 module _ (rows : List Row) (start : List ℕ) where

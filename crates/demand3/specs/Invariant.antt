@@ -31,7 +31,7 @@ use Rattle.replay.specs.Plain.{answerOf}
 use Rattle.replay.specs.Replay.{final, Right, RightAt}
 
 -- an ended operation
-pub record Ended (p k : ℕ) (log answers : List Entry) : Type 0 where
+pub record Settled (p k : ℕ) (log answers : List Entry) : Type 0 where
   pub answer : Maybe
   pub answered : Once p k answer answers
   pub logged : Logged p k answer log
@@ -127,7 +127,7 @@ module _ (rows : List Row) (start : List ℕ) where
     pub fits : r .begun ≤ count rows p
     pub future-log : (i : ℕ) → r .begun ≤ i → i < count rows p → of (first rows p + i) (s .log) ≡ []
     pub future-answers : (i : ℕ) → r .begun ≤ i → i < count rows p → of (first rows p + i) (s .answers) ≡ []
-    pub ended : (i : ℕ) → i < r .begun → (r .opened ≡ Open (first rows p + i) → ⊥) → Ended p (first rows p + i) (s .log) (s .answers)
+    pub ended : (i : ℕ) → i < r .begun → (r .opened ≡ Open (first rows p + i) → ⊥) → Settled p (first rows p + i) (s .log) (s .answers)
     pub opened : (k : ℕ) → r .opened ≡ Open k → IsOpen p k s r
     pub work : StatusOk Late p t (s .words) (s .log) r (r .status)
 

@@ -41,7 +41,7 @@ use Rattle.replay.specs.Plain.{answerOf}
 use Rattle.replay.specs.Replay.{Good, final, RightAt, swap-on, first-swap}
 use Rattle.replay.specs.Replay as replay
 use Rattle.demand3.specs.Statement.{of, Logged, wordOf}
-use Rattle.demand3.specs.Invariant.{Ended, due, Times, matches, says, HasSwap, Seen, Since, as-read, overtaken, Reading, Pending, won, held, lost, AtStage, working, StatusOk, IsOpen, Local, Global, Swapping, Allowed}
+use Rattle.demand3.specs.Invariant.{Settled, due, Times, matches, says, HasSwap, Seen, Since, as-read, overtaken, Reading, Pending, won, held, lost, AtStage, working, StatusOk, IsOpen, Local, Global, Swapping, Allowed}
 use Rattle.demand3.specs.Frames.{ended-alone}
 use Rattle.demand3.specs.Answers.{answer-old, answer-other, answer-read, answer-false, answer-never}
 use Rattle.demand3.specs.Effects.{words-length, plain, of-put, of-last, of-put-own, of-last-own}
@@ -114,9 +114,9 @@ module _ (rows : List Row) (start : List ℕ) (Late : Times) where
           work = refl;
         }
       where
-        go : (i : ℕ) → i < r .begun → (c : Bool) → eqb (first rows p + i) k ≡ c → Ended p (first rows p + i) (s .log) (s .answers ++ e ∷ [])
+        go : (i : ℕ) → i < r .begun → (c : Bool) → eqb (first rows p + i) k ≡ c → Settled p (first rows p + i) (s .log) (s .answers ++ e ∷ [])
         go i h true q =
-            subst (λ k. Ended p k (s .log) (s .answers ++ e ∷ [])) (sym (eqb-true (first rows p + i) k q))
+            subst (λ k. Settled p k (s .log) (s .answers ++ e ∷ [])) (sym (eqb-true (first rows p + i) k q))
             (record {
               answer = m;
               answered = record { entry = e; once = of-last-own k (s .answers) e er (l .opened k o .unanswered); process = ep; says-so = es };

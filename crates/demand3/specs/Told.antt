@@ -94,8 +94,8 @@ module _ (rows : List Row) (words : List ℕ) (P : ℕ) (plan : Plan P (length w
       pub told : Ended m rows k s → Told m rows schedule k (s .log) (s .answers)
       unfolding swapsOf
       told e =
-          let h : invariant.Ended p k (s .log) (s .answers) =
-          subst (λ j. invariant.Ended p j (s .log) (s .answers)) is (local schedule .ended i (passed s e .begun) (passed s e .shut)) in
+          let h : invariant.Settled p k (s .log) (s .answers) =
+          subst (λ j. invariant.Settled p j (s .log) (s .answers)) is (local schedule .ended i (passed s e .begun) (passed s e .shut)) in
           record {
             answer = h .answer;
             answered = h .answered;
