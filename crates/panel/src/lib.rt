@@ -13,8 +13,7 @@ use records::give;
 use records::held;
 use records::take;
 use runfile::Header;
-ghost use Rattle.panel.specs.Press.{numberOfWhy};
-ghost use Rattle.panel.specs.Promises.{Keyed};
+ghost use Rattle.panel.specs.Promises.{Keyed, WhyNumbered};
 ghost use mathlib.Core.Path.{_≡_};
 
 // A key as it is struck: the byte, its position, and how many rows stand in the log and in the answers (R201).
@@ -62,7 +61,7 @@ pub struct After {
 
 // The number of a refusal (R220).
 pub fn why_number(why: Why) -> u32
-    ensures { λ r. ⌜ r ≡ numberOfWhy why ⌝ }
+    ensures { λ r. ⌜ WhyNumbered why r ⌝ }
 {
     match why {
         Why::Run(refusal) => runfile::refusal_number(refusal),

@@ -19,7 +19,7 @@ use Rattle.runfile.specs.Layout.{headerIn, u32At, wordIn, rowOfTable, st
 use Rattle.runfile.specs.Kinds.{kindOf}
 use Rattle.runfile.specs.Operations.{count}
 use Rattle.runfile.specs.Shares.{Counted, Summed, sumTo, sixteen-one}
-use Rattle.runfile.specs.Refusals.{numberOf, badByte, refusalOf}
+use Rattle.runfile.specs.Refusals.{numberOf, badByte, refusalOf, fileRefusal}
 use Rattle.runfile.specs.Table.{Given, Earlier}
 use Rattle.runfile.specs.Exactly.{exactly}
 use Rattle.runfile.specs.Lawful.{Lawful, lawful}
@@ -31,6 +31,13 @@ pub record Decides (f : List ℕ) (room : Room) (r : Checked) : Type 0 where
 -- `refusal_number(why)` (R41 to R55)
 pub record Numbers (why : Refusal) (r : ℕ) : Type 0 where
   pub result : r ≡ numberOf why
+
+-- `check_file(file)`: refusals 1 to 12 alone
+abbrev pub DecidesFile : (f : List ℕ) (r : Checked) → Type 0
+DecidesFile f r = r ≡ fileRefusal f
+
+pub decides-file-one : (f : List ℕ) (r q : Checked) → DecidesFile f r → DecidesFile f q → r ≡ q
+decides-file-one f r q a b = a ∙ sym b
 
 pub decides-one : (f : List ℕ) (room : Room) (r q : Checked) → Decides f room r → Decides f room q → r ≡ q
 decides-one f room r q a b = a .result ∙ sym (b .result)

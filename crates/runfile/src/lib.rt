@@ -36,8 +36,8 @@ ghost use Prim.Native.Nat.{ℕ, _≤_};
 ghost use lib.ListN.{length};
 ghost use Rattle.runfile.specs.Format.{leastHead, longestOfAll};
 ghost use Rattle.runfile.specs.Layout.{lengthGiven};
-ghost use Rattle.runfile.specs.Refusals.{unknownVersion, outOfRange, firstOf, found, noRoom, countChecks, headChecks, bodyChecks, roomChecks, fileRefusal};
-ghost use Rattle.runfile.specs.Promises.{Decides, Numbers};
+ghost use Rattle.runfile.specs.Refusals.{unknownVersion, outOfRange, firstOf, found, noRoom, countChecks, headChecks, bodyChecks, roomChecks};
+ghost use Rattle.runfile.specs.Promises.{Decides, DecidesFile, Numbers};
 
 // One byte more than the longest file has (R9). So many bytes of any file decide what it comes to (R35, specs/Enough).
 pub const ENOUGH_BYTES: usize = 7308;
@@ -223,7 +223,7 @@ fn check_body(file: &[u8], header: Header) -> Checked
 
 // Refusals 1 to 12: all that the file alone decides, for any bytes (R41 to R52).
 pub fn check_file(file: &[u8]) -> Checked
-    ensures { λ r. ⌜ r ≡ fileRefusal (now (file .entry)) ⌝ }
+    ensures { λ r. ⌜ DecidesFile (now (file .entry)) r ⌝ }
 {
     if file.len() < 11 {
         return Checked::Refused(Refusal::Short, 0);

@@ -477,7 +477,7 @@ insert-row-requires : tie.Need-insert-row-requires Inv-loop μ-loop
 insert-row-requires c κs = log-room (turn-at (c .before .before .before .before .before .before .before .before .before .before .before .before .before))
 
 add-log-rows : tie.Need-add-log-rows Inv-loop μ-loop
-add-log-rows c = rows-fit (turn-at (c .before .before .before .before .before .before .before .before .before .before .before .before .before .before .before .before))
+add-log-rows c = let f = rows-fit (turn-at (c .before .before .before .before .before .before .before .before .before .before .before .before .before .before .before .before)) .fits in record { fits = omega arith }
 
 loop-less-9 : tie.Need-loop-less-9 Inv-loop μ-loop
 loop-less-9 c = let i = inside (turn-at (c .before .before .before .before .before .before .before .before .before .before .before .before .before .before .before .before)) in
