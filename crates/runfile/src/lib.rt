@@ -25,7 +25,6 @@ pub use read::rows_start;
 pub use read::schedule_start;
 pub use read::stride_of;
 pub use read::u32_at;
-pub use read::u64_at;
 pub use read::word_at;
 pub use read::word_of_row;
 pub use shares::counts_of;
