@@ -6,7 +6,8 @@
 //! and its positions move".
 //!
 //! The cases are typed here and once more in the folder `bench`; both must
-//! come to the same. Each is there once more as a file of version 2.
+//! come to the same. Each is there once more as a file of version 2. So are the
+//! files `advance-*` of change request 6.
 
 use std::fs;
 use std::path::PathBuf;
@@ -314,7 +315,7 @@ const FOUR_ROWS_2: [u8; 84] = [
 /// The six files `field2-1` to `field2-6`.
 const SLIPS_2: [(usize, u8, usize); 6] = [
     (51, 2, 51),
-    (52, 2, 52),
+    (52, 3, 52),
     (53, 2, 53),
     (54, 1, 54),
     (45, 1, 43),
@@ -332,6 +333,136 @@ fn one_slip_in_each_field_of_a_row_of_version_2() {
         assert_eq!(bytes_in_bench(&format!("field2-{number}.hex")), hex(&file));
         assert_eq!(in_bench(&format!("field2-{number}.out")), refused);
     }
+}
+
+/// A file of version 2 with one word and advances.
+struct AdvanceCase {
+    name: &'static str,
+    mark: u32,
+    /// Process, old and amount of each row.
+    rows: &'static [(u8, u32, u32)],
+    schedule: &'static [(usize, u8)],
+    printed: &'static str,
+}
+
+const ADVANCE_CASES: [AdvanceCase; 8] = [
+    AdvanceCase {
+        name: "alone",
+        mark: 1_907_385_120,
+        rows: &[(0, 0, 1_460)],
+        schedule: &[(9, 0x00)],
+        printed: "run 1 1 1 9\nword 0 1907386580 1\nlog 6 0 0 4 1907385120\n\
+                  answer 8 0 0 4 1907385120\n",
+    },
+    AdvanceCase {
+        name: "loses-once",
+        mark: 2_862_404_773,
+        rows: &[(0, 0, 1_460), (1, 0, 536)],
+        schedule: &[(4, 0x00), (7, 0x01), (3, 0x00), (6, 0x00), (2, 0x01)],
+        printed: "run 2 1 2 22\nword 0 2862406769 3\nlog 10 1 1 4 2862404773\n\
+                  log 17 0 0 4 2862405309\nanswer 19 0 0 4 2862405309\n\
+                  answer 21 1 1 4 2862404773\n",
+    },
+    AdvanceCase {
+        name: "recovered",
+        mark: 3_318_051_694,
+        rows: &[(0, 0, 1_460), (1, 0, 2_920)],
+        schedule: &[(7, 0x00), (1, 0x10), (9, 0x01), (1, 0x20), (5, 0x00)],
+        printed: "run 2 1 2 23\nword 0 3318056074 3\nlog 6 0 0 4 3318051694\n\
+                  log 14 1 1 4 3318053154\nanswer 16 1 1 4 3318053154\n\
+                  answer 22 0 0 4 3318051694\n",
+    },
+    AdvanceCase {
+        name: "told-fail",
+        mark: 746_920_385,
+        rows: &[(0, 0, 536), (1, 0, 1_460)],
+        schedule: &[
+            (4, 0x00),
+            (7, 0x01),
+            (3, 0x00),
+            (1, 0x10),
+            (1, 0x20),
+            (4, 0x00),
+            (2, 0x01),
+        ],
+        printed: "run 2 1 2 22\nword 0 746921845 2\nlog 10 1 1 4 746920385\n\
+                  answer 19 0 0 2 0\nanswer 21 1 1 4 746920385\n",
+    },
+    AdvanceCase {
+        name: "wraps",
+        mark: 4_294_966_296,
+        rows: &[(0, 0, 1_460), (0, 0, 1_460)],
+        schedule: &[(18, 0x00)],
+        printed: "run 1 1 2 18\nword 0 1920 0\nlog 6 0 0 4 4294966296\nlog 15 0 1 4 460\n\
+                  answer 8 0 0 4 4294966296\nanswer 17 0 1 4 460\n",
+    },
+    AdvanceCase {
+        name: "capture",
+        mark: 4_019_873_250,
+        rows: &[(0, 0, 1_460), (0, 0, 1_460), (1, 0, 1_460)],
+        schedule: &[(6, 0x00), (1, 0x10), (9, 0x01), (1, 0x20), (13, 0x00)],
+        printed: "run 2 1 3 30\nword 0 4019876170 3\nlog 13 1 2 4 4019873250\n\
+                  log 27 0 1 4 4019874710\nanswer 15 1 2 4 4019873250\n\
+                  answer 20 0 0 2 0\nanswer 29 0 1 4 4019874710\n",
+    },
+    AdvanceCase {
+        name: "field-old",
+        mark: 1_907_385_120,
+        rows: &[(0, 0, 1_460), (0, 1_907_386_580, 1_460)],
+        schedule: &[(9, 0x00)],
+        printed: "refused 9 35\n",
+    },
+    AdvanceCase {
+        name: "amount-0",
+        mark: 1_907_385_120,
+        rows: &[(0, 0, 1_460), (0, 0, 0)],
+        schedule: &[(9, 0x00)],
+        printed: "refused 11 31\n",
+    },
+];
+
+impl AdvanceCase {
+    fn file(&self) -> Vec<u8> {
+        let bytes = self.schedule.iter();
+        let schedule: Vec<u8> = bytes
+            .flat_map(|(times, byte)| vec![*byte; *times])
+            .collect();
+        let processes = self.rows.last().map_or(0, |row| row.0 + 1);
+        let (rows, length) = (self.rows.len() as u8, schedule.len() as u8);
+        let mut file = b"SWR".to_vec();
+        file.extend([2, 0, processes, 1, rows, 0, length, 0]);
+        file.extend(u64::from(self.mark).to_le_bytes());
+        for (process, old, amount) in self.rows {
+            file.extend([*process, 2, 0, 0]);
+            file.extend(old.to_le_bytes());
+            file.extend(amount.to_le_bytes());
+        }
+        file.extend(schedule);
+        file
+    }
+}
+
+#[test]
+fn the_files_of_advances_print_their_whole_outcomes() {
+    for case in &ADVANCE_CASES {
+        let (name, file) = (format!("advance-{}", case.name), case.file());
+        assert_eq!(printed(&file), case.printed, "{name}");
+        assert_eq!(bytes_in_bench(&format!("{name}.hex")), hex(&file), "{name}");
+        assert_eq!(in_bench(&format!("{name}.out")), case.printed, "{name}");
+    }
+}
+
+/// No file of the folder `bench` is left out here.
+#[test]
+fn every_file_in_the_folder_bench_is_held() {
+    let mut path = PathBuf::from(env!("CARGO_MANIFEST_DIR"));
+    path.extend(["..", "bench"]);
+    let names = fs::read_dir(&path).expect("the folder bench");
+    let names = names.map(|entry| entry.expect("an entry").file_name());
+    let names: Vec<String> = names.filter_map(|name| name.into_string().ok()).collect();
+    let of_sort = |end: &str| names.iter().filter(|name| name.ends_with(end)).count();
+    let held = 2 * CASES.len() + SLIPS.len() + SLIPS_2.len() + ADVANCE_CASES.len();
+    assert_eq!((of_sort(".hex"), of_sort(".out")), (held, held));
 }
 
 #[test]

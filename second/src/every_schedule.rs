@@ -1,6 +1,6 @@
-//! Every short schedule behind a whole swap, run by the machine and held
-//! against the checker: whatever is cut off between any two steps, nothing of
-//! the first row may show in the second.
+//! Every short schedule behind a whole swap or a whole advance, run by the
+//! machine and held against the checker: whatever is cut off between any two
+//! steps, nothing of the first row may show in the second.
 
 use crate::checker;
 use crate::stream::{Lengths, Record};
@@ -47,10 +47,45 @@ fn record([kind, values @ ..]: [u8; 5], schedule: &[u8]) -> Record {
     }
 }
 
+/// Four bytes of old and four of new, and the kind.
+type WideRow = (u8, u32, u32);
+
+/// One word 1,000 below the end, in a file of version 2. Process 0 advances it
+/// by 1,460 to 460 before the schedule and advances it by 536 then; process 1
+/// has this row.
+fn advance_record((kind, old, new): WideRow, schedule: &[u8]) -> Record {
+    let mut file = b"SWR\x02\x00\x02\x01\x03\x00".to_vec();
+    file.extend([9 + schedule.len() as u8, 0]);
+    file.extend([0x18, 0xFC, 0xFF, 0xFF, 0, 0, 0, 0]);
+    for (process, kind, old, new) in [(0, 2, 0, 1_460), (0, 2, 0, 536u32), (1, kind, old, new)] {
+        file.extend([process, kind, 0, 0]);
+        file.extend(old.to_le_bytes());
+        file.extend(new.to_le_bytes());
+    }
+    file.extend([0; 9]);
+    file.extend(schedule);
+    Record {
+        file,
+        lengths: Lengths {
+            words: 1,
+            log: 5 * (9 + schedule.len()),
+            answers: 5 * (9 + schedule.len()),
+        },
+    }
+}
+
 fn hold(second_row: [u8; 5], schedules: &[Vec<u8>]) {
+    hold_records(schedules, |schedule| record(second_row, schedule));
+}
+
+fn hold_advances(other_row: WideRow, schedules: &[Vec<u8>]) {
+    hold_records(schedules, |schedule| advance_record(other_row, schedule));
+}
+
+fn hold_records(schedules: &[Vec<u8>], record: impl Fn(&[u8]) -> Record) {
     let (mut stream, mut outcomes, mut said) = (Vec::new(), Vec::new(), Vec::new());
     for schedule in schedules {
-        let record = record(second_row, schedule);
+        let record = record(schedule);
         record.write(&mut stream).unwrap();
         print_record(&record, &mut outcomes).unwrap();
     }
@@ -79,4 +114,41 @@ fn seven_bytes_with_another_at_its_swap() {
             .collect();
         hold(SWAP_8_FOR_9, &behind);
     }
+}
+
+/// Process 1's row: an advance that goes round, and a swap of the 460.
+const BACK_BY_500: WideRow = (2, 0, 4_294_966_796);
+const SWAP_460_FOR_7: WideRow = (1, 460, 7);
+
+#[test]
+fn nine_bytes_of_one_that_advances() {
+    let schedules = every_schedule(&[0x00, 0x10, 0x20], 9);
+    hold_advances(BACK_BY_500, &schedules);
+}
+
+#[test]
+fn seven_bytes_of_an_advance_with_another_at_its_swap() {
+    for other_row in [BACK_BY_500, SWAP_460_FOR_7] {
+        for steps in [6, 7] {
+            let schedules = every_schedule(&[0x00, 0x10, 0x20, 0x01], 7);
+            let behind: Vec<Vec<u8>> = schedules
+                .iter()
+                .map(|schedule| [&vec![0x01; steps][..], &[0; 4], schedule].concat())
+                .collect();
+            hold_advances(other_row, &behind);
+        }
+    }
+}
+
+/// Process 0 is about to lose its first round; so the crashes fall into its
+/// second one.
+#[test]
+fn seven_bytes_behind_a_lost_round() {
+    let schedules = every_schedule(&[0x00, 0x10, 0x20, 0x01], 7);
+    let behind: Vec<Vec<u8>> = schedules
+        .iter()
+        .map(|schedule| [&[1; 6][..], &[0; 6], &[1, 0], schedule].concat())
+        .collect();
+    hold_advances(BACK_BY_500, &behind);
+    hold_advances(SWAP_460_FOR_7, &behind);
 }

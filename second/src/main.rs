@@ -40,7 +40,9 @@ use generate::Flavour;
 
 const USAGE: &str = "usage:
   second run < FILE
-  second generate SEED COUNT [any|short|few|many|quiet|reads|few2|many2|quiet2|reads2] > STREAM
+  second generate SEED COUNT [FLAVOUR] > STREAM
+    of any, short, few, many, quiet, reads, few2, many2, quiet2, reads2,
+    advance2, mixed2 and short-advance2
   second unrun < STREAM > STREAM
   second sweep < STREAM > OUTCOMES
   second compare STREAM OUTCOMES_A OUTCOMES_B

@@ -12,7 +12,8 @@ use crate::Ending;
 /// the line alone does not tell, [`Tally::labelled`] puts in a word: `start`
 /// for the words that the file starts from, `between` for a row of the log
 /// that has others behind it, `wide` for a value over 65,535, which only a file
-/// of version 2 comes to, `file` for the refusal of a file.
+/// of version 2 comes to, `back` for a stage that follows a lost round, `file`
+/// for the refusal of a file.
 const KINDS: &[&str] = &[
     "run P W R S",
     "start word K VALUE FLIPS",
@@ -28,6 +29,7 @@ const KINDS: &[&str] = &[
     "process Q stage N2",
     "process Q stage N3",
     "process Q stage A1",
+    "back process Q stage A1",
     "process Q stage A2",
     "process Q stage A3",
     "process Q stage A4",
@@ -46,16 +48,21 @@ const KINDS: &[&str] = &[
     "process Q stored true",
     "process Q stored value V",
     "wide process Q stored value V",
+    "process Q stored was V",
+    "wide process Q stored was V",
     "process Q checkpoint 0",
     "process Q checkpoint 1",
     "process Q kept 0",
     "process Q kept 1",
+    "process Q kept value V",
+    "wide process Q kept value V",
     "process Q begun N",
     "word K VALUE FLIPS",
     "wide word K VALUE FLIPS",
     "log POSITION PROCESS ROW 0 0 at PLACE",
     "log POSITION PROCESS ROW 1 0 at PLACE",
     "log POSITION PROCESS ROW 3 VALUE at PLACE",
+    "log POSITION PROCESS ROW 4 VALUE at PLACE",
     "log between POSITION PROCESS ROW 0 0 at PLACE",
     "log between POSITION PROCESS ROW 3 VALUE at PLACE",
     "answer POSITION PROCESS ROW 0 0",
@@ -63,6 +70,8 @@ const KINDS: &[&str] = &[
     "answer POSITION PROCESS ROW 2 0",
     "answer POSITION PROCESS ROW 3 VALUE",
     "wide answer POSITION PROCESS ROW 3 VALUE",
+    "answer POSITION PROCESS ROW 4 VALUE",
+    "wide answer POSITION PROCESS ROW 4 VALUE",
     "nothing",
     "file refused N PLACE",
     "refused 21 0",
@@ -78,6 +87,8 @@ struct Tally {
     keys: u64,
     /// Rows of this file's log by now.
     log_rows: u64,
+    /// The stage of each process of this file, where one has been told.
+    stages: BTreeMap<String, String>,
     in_header: bool,
     behind_a_key: bool,
 }
@@ -112,8 +123,14 @@ impl Tally {
             words.next(),
             words.next().and_then(|word| word.parse().ok()),
         );
+        if let ["process", process, "stage", stage] = line.split(' ').collect::<Vec<_>>()[..] {
+            self.stages.insert(process.to_string(), stage.to_string());
+        }
         match (name, number) {
-            (Some("run"), _) => (self.in_header, self.log_rows) = (true, 0),
+            (Some("run"), _) => {
+                (self.in_header, self.log_rows) = (true, 0);
+                self.stages.clear();
+            }
             (Some("refused"), Some(number)) => *self.refused.entry(number).or_default() += 1,
             (Some("log"), _) => self.log_rows += 1,
             (Some("key"), _) => self.keys += 1,
@@ -128,11 +145,18 @@ impl Tally {
         let wide = if has_wide_value(line) { "wide " } else { "" };
         match line.split_once(' ') {
             Some(("word", _)) if self.in_header => format!("start {wide}{line}"),
+            Some(("process", told)) if self.goes_back(told) => format!("back {line}"),
             Some(("word" | "process" | "answer", _)) => format!("{wide}{line}"),
             Some(("refused", _)) if !self.behind_a_key => format!("file {line}"),
             Some(("log", row)) if self.has_others_behind(row) => format!("log between {row}"),
             _ => line.to_string(),
         }
+    }
+
+    /// Of what is told of a process: an advance goes from A4 to A1.
+    fn goes_back(&self, told: &str) -> bool {
+        let was_at_a4 = |process| self.stages.get(process).is_some_and(|stage| stage == "A4");
+        told.strip_suffix(" stage A1").is_some_and(was_at_a4)
     }
 
     /// Of a new row of the log: its place is not the end.
@@ -162,14 +186,15 @@ impl Tally {
     }
 }
 
-/// Of a line with a value in it, the word's or the one that is stored or
+/// Of a line with a value in it, the word's or the one that is stored, kept or
 /// answered: it is over 65,535.
 fn has_wide_value(line: &str) -> bool {
     let words: Vec<&str> = line.split(' ').collect();
     let value = match words[..] {
         ["word", _, value, _]
-        | ["process", _, "stored", "value", value]
-        | ["answer", _, _, _, "3", value] => value.parse().ok(),
+        | ["process", _, "stored", "value" | "was", value]
+        | ["process", _, "kept", "value", value]
+        | ["answer", _, _, _, "3" | "4", value] => value.parse().ok(),
         _ => None,
     };
     value.is_some_and(|value: u64| value > 65_535)
@@ -262,6 +287,40 @@ mod tests {
         assert_eq!(met_once(text), expected);
     }
 
+    #[test]
+    fn the_lines_of_an_advance() {
+        let text = "run 1 1 1 0\nprocess 0 kept value 65535\nprocess 1 kept value 65536\n\
+                    log 6 0 0 4 65536 at 0\nprocess 0 stored was 0\n\
+                    process 1 stored was 4294967295\nanswer 8 0 0 4 65535\n\
+                    answer 9 0 0 4 65536\n";
+        let expected = [
+            "run P W R S",
+            "process Q stored was V",
+            "wide process Q stored was V",
+            "process Q kept value V",
+            "wide process Q kept value V",
+            "log POSITION PROCESS ROW 4 VALUE at PLACE",
+            "answer POSITION PROCESS ROW 4 VALUE",
+            "wide answer POSITION PROCESS ROW 4 VALUE",
+        ];
+        assert_eq!(met_once(text), expected);
+    }
+
+    /// Its own stage counts, and that of the file before does not.
+    #[test]
+    fn one_that_goes_back_to_a1_is_another_kind() {
+        let text = "process 0 stage A4\nprocess 1 stage A1\nprocess 0 stage A1\n";
+        let expected = [
+            "process Q stage A1",
+            "back process Q stage A1",
+            "process Q stage A4",
+        ];
+        assert_eq!(met_once(text), expected);
+        let text = "process 0 stage A4\nrun 1 1 1 0\nprocess 0 stage A1\n";
+        let expected = ["run P W R S", "process Q stage A1", "process Q stage A4"];
+        assert_eq!(met_once(text), expected);
+    }
+
     /// Also over two files: the second begins with an empty log.
     #[test]
     fn a_row_of_the_log_with_others_behind_it_is_another_kind() {
@@ -285,7 +344,10 @@ mod tests {
             "key 0 0G none",
             "key x 00 step 0",
             "key 0 00 step 0\nrefused 14 0",
-            "answer 3 0 0 4 0",
+            "answer 3 0 0 5 0",
+            "log 3 0 0 2 0 at 0",
+            "process 0 stored before 7",
+            "process 0 kept 2",
         ] {
             let (clean, told) = told(&format!("{line}\n"));
             assert!(!clean && told.starts_with("no line of a panel: "), "{line}");

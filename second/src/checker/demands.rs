@@ -3,7 +3,7 @@
 
 use std::collections::HashMap;
 
-use super::given::{Given, GivenRow};
+use super::given::{Given, GivenRow, ADVANCE, COMPARE, READ};
 use super::outcome::{Five, Ran};
 use super::spans::Spans;
 use super::Violation;
@@ -12,6 +12,19 @@ pub const FALSE: u64 = 0;
 pub const TRUE: u64 = 1;
 pub const FAIL: u64 = 2;
 pub const VALUE_READ: u64 = 3;
+/// Of an advance: "The answer is the value before, verdict 4 with that value"
+/// (change request 6).
+pub const VALUE_BEFORE: u64 = 4;
+
+/// What is behind the largest value: "The sum goes round past 4,294,967,295 to
+/// 0".
+pub const ROUND: u64 = 4_294_967_296;
+
+/// A log row of a successful swap, and so is an advance's: its swap "is a
+/// successful swap for others' lost ones".
+pub fn is_swap(five: &Five) -> bool {
+    matches!(five.verdict, TRUE | VALUE_BEFORE)
+}
 
 /// The row of the file that a row of the log or of the answers names.
 pub fn named_row<'g>(given: &'g Given, five: &Five) -> Result<&'g GivenRow, Violation> {
@@ -55,28 +68,53 @@ pub fn check_replay(given: &Given, ran: &Ran) -> Result<(), Violation> {
     Ok(())
 }
 
+/// "Demand 3 reads kind 2 as adding at one stroke."
 fn replay(row: &GivenRow, five: &Five, value: &mut u64) -> Result<(), Violation> {
-    let holds = match five.verdict {
-        VALUE_READ => !row.compares && five.value == *value,
-        TRUE => row.compares && five.value == 0 && row.old == *value,
-        FALSE => row.compares && five.value == 0 && row.old != *value,
-        _ => false,
+    let left = match (row.kind, five.verdict) {
+        (READ, VALUE_READ) if five.value == *value => Some(*value),
+        (COMPARE, TRUE) if five.value == 0 && row.old == *value => Some(row.new),
+        (COMPARE, FALSE) if five.value == 0 && row.old != *value => Some(*value),
+        (ADVANCE, VALUE_BEFORE) if five.value == *value => Some((*value + row.new) % ROUND),
+        _ => None,
     };
-    if !holds {
+    let Some(left) = left else {
         return Err(format!(
             "row {} meets the value {value} in the log's order",
             five.row
         ));
-    }
-    if five.verdict == TRUE {
-        *value = row.new;
+    };
+    *value = left;
+    Ok(())
+}
+
+/// (e) The sum: for a word on which only advances succeed, "the final value is
+/// the start value plus the amounts of the advances in the log, modulo 2^32",
+/// whatever their order in the log.
+pub fn check_sums(given: &Given, ran: &Ran) -> Result<(), Violation> {
+    let swaps: Vec<&Five> = ran.log.iter().filter(|five| is_swap(five)).collect();
+    for (number, (start, told)) in given.words.iter().zip(&ran.words).enumerate() {
+        let mut sum = Some(start.value);
+        for five in &swaps {
+            let row = named_row(given, five)?;
+            if row.word == number {
+                let advances = five.verdict == VALUE_BEFORE;
+                sum = sum.filter(|_| advances).map(|sum| sum + row.new);
+            }
+        }
+        // None where a compare has succeeded, too.
+        if sum.is_some_and(|sum| sum % ROUND != told.value) {
+            return Err(format!(
+                "the amounts do not make up the value of word {number}"
+            ));
+        }
     }
     Ok(())
 }
 
 /// (b) Once: each row at most once in the log and at most once in the
 /// answers, with its own process; answers and log agree, and a failed
-/// operation has no effect.
+/// operation has no effect. So an advance that is told the value before has
+/// added its amount exactly once.
 pub fn check_once(given: &Given, ran: &Ran) -> Result<(), Violation> {
     let logged = by_row(given, &ran.log)?;
     let answered = by_row(given, &ran.answers)?;
@@ -126,10 +164,10 @@ pub fn check_order(ran: &Ran, spans: &Spans) -> Result<(), Violation> {
 }
 
 /// (d) The flip bits of each word are the start's, with bit p turned once for
-/// each successful swap of process p on that word.
+/// each successful swap of process p on that word, advances included.
 pub fn check_flip_bits(given: &Given, ran: &Ran) -> Result<(), Violation> {
     let mut flips: Vec<u64> = given.words.iter().map(|word| word.flips).collect();
-    for five in ran.log.iter().filter(|five| five.verdict == TRUE) {
+    for five in ran.log.iter().filter(|five| is_swap(five)) {
         let word = named_row(given, five)?.word;
         if let (Some(flips), 0..=15) = (flips.get_mut(word), five.process) {
             *flips ^= 1 << five.process;

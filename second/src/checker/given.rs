@@ -28,11 +28,17 @@ pub struct StartWord {
 
 pub struct GivenRow {
     pub process: u64,
-    pub compares: bool,
+    /// [`READ`], [`COMPARE`] or [`ADVANCE`] in a file that is not refused.
+    pub kind: u64,
     pub word: usize,
     pub old: u64,
+    /// Of an advance the amount.
     pub new: u64,
 }
+
+pub const READ: u64 = 0;
+pub const COMPARE: u64 = 1;
+pub const ADVANCE: u64 = 2;
 
 impl Given {
     pub fn read(file: &[u8]) -> Result<Given, Violation> {
@@ -94,6 +100,14 @@ impl Layout {
         4 + 2 * self.value_bytes
     }
 
+    /// "New kind 2 in version 2 files" (change request 6).
+    pub fn last_kind(self) -> u64 {
+        match self.version {
+            1 => COMPARE,
+            _ => ADVANCE,
+        }
+    }
+
     /// Offset and bytes of each of the [`FIELDS`].
     pub fn fields(self) -> [(usize, usize); 6] {
         let value = self.value_bytes;
@@ -133,12 +147,12 @@ impl Layout {
         })
     }
 
-    fn given_row(self, file: &[u8], row: usize) -> Option<GivenRow> {
+    pub fn given_row(self, file: &[u8], row: usize) -> Option<GivenRow> {
         let field = |(offset, bytes): (usize, usize)| number(file, row + offset, bytes);
         let [process, kind, word, _, old, new] = self.fields();
         Some(GivenRow {
             process: field(process)?,
-            compares: field(kind)? == 1,
+            kind: field(kind)?,
             word: field(word)? as usize,
             old: field(old)?,
             new: field(new)?,

@@ -3,10 +3,10 @@
 //!
 //! This module shares no code with the machine: it reads the run file and the
 //! outcome lines in its own way and knows nothing of stages, only that an
-//! operation begins with its third store. What it demands is what can be seen
-//! from outside: the file, the log, the answers and the final words. Of the
-//! refusals it judges the place of 9, so that it can count them by field and
-//! version.
+//! operation begins with its third store and that an advance tries in rounds of
+//! four steps. What it demands is what can be seen from outside: the file, the
+//! log, the answers and the final words. Of the refusals it judges the places
+//! of 9 and 11, so that it can count them by what is wrong and by version.
 
 mod demands;
 mod fields;
@@ -15,6 +15,7 @@ mod outcome;
 mod positions;
 mod spans;
 mod sum;
+mod swaps;
 mod tally;
 
 #[cfg(test)]
@@ -89,11 +90,8 @@ fn check_record(record: &Record, text: &[u8], tally: &mut Tally) -> Result<(), V
             if place > record.file.len() {
                 return Err(format!("the place {place} is not in the file"));
             }
-            let field = match number {
-                9 => Some(fields::field_at(&record.file, place)?),
-                _ => None,
-            };
-            tally.refused(number, field, Layout::of(&record.file))
+            let fault = fields::fault_at(&record.file, number, place)?;
+            tally.refused(number, fault, Layout::of(&record.file))
         }
         Told::Ran(ran) => {
             let given = Given::read(&record.file)?;
@@ -107,11 +105,13 @@ fn check_record(record: &Record, text: &[u8], tally: &mut Tally) -> Result<(), V
 fn check_run(given: &Given, ran: &Ran) -> Result<Spans, Violation> {
     demands::check_counts(given, ran)?;
     demands::check_replay(given, ran)?;
+    demands::check_sums(given, ran)?;
     demands::check_once(given, ran)?;
     demands::check_flip_bits(given, ran)?;
     positions::check_log(given, ran)?;
     positions::check_answers(given, ran)?;
     let spans = Spans::follow(given, ran)?;
+    positions::check_advances(ran, &spans)?;
     demands::check_order(ran, &spans)?;
     positions::check_between(ran, &spans)?;
     Ok(spans)

@@ -3,7 +3,7 @@
 
 use std::collections::HashMap;
 
-use super::demands::{named_row, FALSE, TRUE};
+use super::demands::{is_swap, named_row, FALSE, VALUE_BEFORE};
 use super::given::Given;
 use super::outcome::{Five, Ran};
 use super::spans::Spans;
@@ -18,8 +18,8 @@ pub fn check_log(given: &Given, ran: &Ran) -> Result<(), Violation> {
     if !never_decrease || ran.log.iter().any(|five| five.position >= length) {
         return Err("the log's positions decrease or leave the schedule".to_string());
     }
-    for (five, is_lost) in ran.log.iter().zip(lost_swaps(given, ran)) {
-        if !is_lost && !given.is_step_of(five.position, five.process) {
+    for (five, lost_to) in ran.log.iter().zip(lost_swaps(given, ran)) {
+        if lost_to.is_none() && !given.is_step_of(five.position, five.process) {
             return Err(format!(
                 "the log position of row {} is no step of its process",
                 five.row
@@ -29,21 +29,20 @@ pub fn check_log(given: &Given, ran: &Ran) -> Result<(), Violation> {
     Ok(())
 }
 
-/// For each log row, whether it is a lost swap: a false whose position is
-/// that of a swap on the same word earlier in the log.
-pub fn lost_swaps(given: &Given, ran: &Ran) -> Vec<bool> {
-    let mut swap_positions: HashMap<usize, u64> = HashMap::new();
-    let is_lost = |five: &Five| {
-        let Ok(row) = named_row(given, five) else {
-            return false;
-        };
-        if five.verdict == TRUE {
-            swap_positions.insert(row.word, five.position);
+/// For each log row that is a lost swap, the swap to which it lost: a false
+/// whose position is that of a swap on the same word earlier in the log.
+pub fn lost_swaps<'r>(given: &Given, ran: &'r Ran) -> Vec<Option<&'r Five>> {
+    let mut swaps: HashMap<usize, &Five> = HashMap::new();
+    let lost_to = |five: &'r Five| {
+        let row = named_row(given, five).ok()?;
+        if is_swap(five) {
+            swaps.insert(row.word, five);
         }
         // Positions never decrease, so the latest swap is the one to ask.
-        five.verdict == FALSE && swap_positions.get(&row.word) == Some(&five.position)
+        let latest = swaps.get(&row.word).copied();
+        latest.filter(|swap| five.verdict == FALSE && swap.position == five.position)
     };
-    ran.log.iter().map(is_lost).collect()
+    ran.log.iter().map(lost_to).collect()
 }
 
 /// One byte gives at most one answer, in the order of the bytes, and it is a
@@ -58,6 +57,20 @@ pub fn check_answers(given: &Given, ran: &Ran) -> Result<(), Violation> {
             return Err(format!(
                 "the answer position of row {} is no step of its process",
                 five.row
+            ));
+        }
+    }
+    Ok(())
+}
+
+/// An advance enters the log at its swap, which is the last step of a round.
+/// One that has crashed goes into no further round.
+pub fn check_advances(ran: &Ran, spans: &Spans) -> Result<(), Violation> {
+    for five in ran.log.iter().filter(|five| five.verdict == VALUE_BEFORE) {
+        if !spans.of(five.row)?.advance.swapped {
+            return Err(format!(
+                "row {} is at the end of no round at {}",
+                five.row, five.position
             ));
         }
     }

@@ -396,7 +396,7 @@ fn refusal_9_has_the_place_of_the_first_faulty_field() {
 /// faulty, its old and new in each byte.
 #[test]
 fn refusal_9_has_its_place_in_version_2_too() {
-    let mut places = vec![(31, 2, 31), (32, 2, 32), (33, 1, 33), (34, 1, 34)];
+    let mut places = vec![(31, 2, 31), (32, 3, 32), (33, 1, 33), (34, 1, 34)];
     places.extend((35..39).map(|at| (at, 1, 35)));
     places.extend((39..43).map(|at| (at, 1, 39)));
     for (changed, byte, truth) in places {
@@ -438,6 +438,366 @@ fn refusal_9_is_counted_by_field_and_version() {
     }
 }
 
+/// Two processes and one word at 4,294,966,296, which is 1,000 below the end.
+/// Row 0: process 0 by 1,460; row 1: process 1 by 536; row 2: process 1, a swap
+/// of 460 for 7.
+fn advances(schedule: &[u8]) -> Vec<u8> {
+    let mut file = vec![0x53, 0x57, 0x52, 2, 0, 2, 1, 3, 0];
+    file.extend([schedule.len() as u8, 0]);
+    file.extend([0x18, 0xFC, 0xFF, 0xFF, 0, 0, 0, 0]);
+    file.extend([0, 2, 0, 0, 0, 0, 0, 0, 0xB4, 5, 0, 0]);
+    file.extend([1, 2, 0, 0, 0, 0, 0, 0, 0x18, 2, 0, 0]);
+    file.extend([1, 1, 0, 0, 0xCC, 1, 0, 0, 7, 0, 0, 0]);
+    file.extend(schedule);
+    file
+}
+
+fn times(parts: &[(usize, u8)]) -> Vec<u8> {
+    let bytes = parts.iter().flat_map(|(count, byte)| vec![*byte; *count]);
+    bytes.collect()
+}
+
+/// Process 0 reads at 3, process 1 swaps at 10; process 0 loses its round at 13
+/// and swaps at 17.
+fn one_lost_round() -> Vec<u8> {
+    advances(&times(&[(4, 0), (7, 1), (9, 0), (2, 1)]))
+}
+
+const ONE_LOST_ROUND: &str = "run 2 1 3 22
+word 0 996 3
+log 10 1 1 4 4294966296
+log 17 0 0 4 4294966832
+answer 19 0 0 4 4294966832
+answer 21 1 1 4 4294966296
+";
+
+#[test]
+fn true_outcomes_of_advances_are_accepted() {
+    assert_eq!(check_with_sum(&one_lost_round(), ONE_LOST_ROUND), Ok(()));
+    let alone = advances(&[0; 9]);
+    let told = "run 2 1 3 9\nword 0 460 1\nlog 6 0 0 4 4294966296\nanswer 8 0 0 4 4294966296\n";
+    assert_eq!(check_with_sum(&alone, told), Ok(()));
+}
+
+#[test]
+fn false_stories_about_advances_are_objected_to() {
+    let falsified = |from: &str, to: &str| {
+        assert!(ONE_LOST_ROUND.contains(from));
+        objection(&one_lost_round(), &ONE_LOST_ROUND.replace(from, to))
+    };
+    // The sum not gone round, stopped at the end, or the amount put in.
+    falsified("word 0 996 3", "word 0 4294967295 3");
+    falsified("word 0 996 3", "word 0 1460 3");
+    falsified("word 0 996 3", "word 0 995 3");
+    // The value before: that of the round that was lost, or the one behind.
+    falsified(
+        "4 4294966832\nanswer 19 0 0 4 4294966832",
+        "4 4294966296\nanswer 19 0 0 4 4294966296",
+    );
+    falsified("answer 19 0 0 4 4294966832", "answer 19 0 0 4 996");
+    falsified("answer 19 0 0 4 4294966832", "answer 19 0 0 4 4294966296");
+    // Another verdict, or told what did not happen.
+    falsified("log 17 0 0 4 4294966832", "log 17 0 0 1 0");
+    falsified("log 17 0 0 4 4294966832", "log 17 0 0 3 4294966832");
+    falsified("answer 19 0 0 4 4294966832", "answer 19 0 0 1 0");
+    falsified("answer 19 0 0 4 4294966832", "answer 19 0 0 0 0");
+    falsified("answer 19 0 0 4 4294966832", "answer 19 0 0 2 0");
+    // A bit not turned.
+    falsified("word 0 996 3", "word 0 996 2");
+    // Swapped though it had lost, or at a step that ends no round.
+    let text = falsified("log 17 0 0", "log 13 0 0");
+    assert!(text.contains("should have ended by"), "{text}");
+    for position in [14, 15, 16, 18] {
+        let to = format!("log {position} 0 0");
+        let text = falsified("log 17 0 0", &to);
+        assert!(text.contains("though nobody else has since 14"), "{text}");
+    }
+    // A lost round answered with false.
+    let told = "run 2 1 3 22\nword 0 4294966832 2\nlog 10 1 1 4 4294966296\n\
+                log 10 0 0 0 0\nanswer 15 0 0 0 0\nanswer 21 1 1 4 4294966296\n";
+    objection(&one_lost_round(), told);
+}
+
+/// "each time it goes back to A1 a successful swap of another process on its
+/// word stands in the log between its A1 and its A4"
+#[test]
+fn a_round_lost_to_nobody_is_objected_to() {
+    let told = |length: usize| format!("run 2 1 3 {length}\nword 0 4294966296 0\n");
+    for (steps, holds) in [(6, true), (7, false), (8, false), (30, false)] {
+        let file = advances(&vec![0; steps]);
+        let check = check_with_sum(&file, &told(steps));
+        assert_eq!(check.is_ok(), holds, "{steps} steps");
+    }
+    // The other one swaps before the round's A1, or behind its A4.
+    let before = times(&[(7, 1), (3, 0), (4, 0)]);
+    let swapped = "run 2 1 3 14\nword 0 4294966832 2\nlog 6 1 1 4 4294966296\n";
+    let text = objection(&advances(&before), swapped);
+    assert_eq!(
+        text,
+        "row 0 does not swap at 13, though nobody else has since 10"
+    );
+    let behind = times(&[(6, 1), (7, 0), (1, 1)]);
+    let swapped = "run 2 1 3 14\nword 0 4294966832 2\nlog 13 1 1 4 4294966296\n";
+    let text = objection(&advances(&behind), swapped);
+    assert_eq!(
+        text,
+        "row 0 does not swap at 12, though nobody else has since 9"
+    );
+    // Between the two it may.
+    let between = times(&[(6, 1), (4, 0), (1, 1), (3, 0)]);
+    let swapped = "run 2 1 3 14\nword 0 4294966832 2\nlog 10 1 1 4 4294966296\n";
+    assert_eq!(check_with_sum(&advances(&between), swapped), Ok(()));
+}
+
+/// "For an advance no limit is claimed": here it loses four rounds. Behind its
+/// swap two steps are left, and behind a wake five.
+#[test]
+fn the_limits_of_an_advance() {
+    let told =
+        |length: usize| format!("run 2 1 3 {length}\nword 0 460 1\nlog 6 0 0 4 4294966296\n");
+    for (steps, holds) in [(7, true), (8, true), (9, false)] {
+        let file = advances(&vec![0; steps]);
+        assert_eq!(check_with_sum(&file, &told(steps)).is_ok(), holds);
+    }
+    for (steps, holds) in [(4, true), (5, false)] {
+        let schedule = times(&[(7, 0), (1, 0x10), (1, 0x20), (steps, 0)]);
+        let check = check_with_sum(&advances(&schedule), &told(9 + steps));
+        assert_eq!(check.is_ok(), holds);
+    }
+    // In recovery it does not go on to swap.
+    let schedule = times(&[(6, 0), (1, 0x10), (1, 0x20), (4, 0)]);
+    let swapped = "run 2 1 3 12\nword 0 460 1\nlog 11 0 0 4 4294966296\n";
+    let text = objection(&advances(&schedule), swapped);
+    assert_eq!(text, "row 0 is at the end of no round at 11");
+}
+
+/// The amounts in the log, in whatever order, make up the value.
+#[test]
+fn the_sum_of_the_advances() {
+    let given = Given::read(&one_lost_round()).unwrap();
+    let outcome = |value: &str| {
+        let text = ONE_LOST_ROUND.replace("word 0 996", &format!("word 0 {value}")) + "sum 0\n";
+        match Outcome::read(text.as_bytes()).unwrap().told {
+            Told::Ran(ran) => ran,
+            Told::Refused { .. } => panic!("it has run"),
+        }
+    };
+    assert_eq!(demands::check_sums(&given, &outcome("996")), Ok(()));
+    for value in ["995", "4294966296", "4294967295", "0"] {
+        let told = demands::check_sums(&given, &outcome(value));
+        assert_eq!(
+            told.unwrap_err(),
+            "the amounts do not make up the value of word 0"
+        );
+    }
+    // With a swap on the word, too, it is not the sum.
+    let mut ran = outcome("995");
+    ran.log[0].verdict = demands::TRUE;
+    assert_eq!(demands::check_sums(&given, &ran), Ok(()));
+}
+
+/// Process 0 swaps 7 for 8 in vain: process 1 advances meanwhile.
+#[test]
+fn a_compare_that_lost_to_an_advance() {
+    let mut file = F_2.to_vec();
+    file[31..43].copy_from_slice(&[1, 2, 0, 0, 0, 0, 0, 0, 2, 0, 0, 0]);
+    let told = F_2_OUTCOME.replace("log 10 1 1 1 0", "log 10 1 1 4 4000000007");
+    assert_eq!(check_with_sum(&file, &told), Ok(()));
+    // In front of the advance it would meet its old.
+    let rows = ["log 10 1 1 4 4000000007\n", "log 10 0 0 0 0\n"];
+    let turned = told.replace(&rows.concat(), &[rows[1], rows[0]].concat());
+    assert!(turned != told && objection(&file, &turned).contains("meets the value"));
+    let mut tally = Tally::default();
+    count_kinds(&mut tally, &file, &told);
+    assert_eq!(met(&tally, "compares that lost to an advance"), 1);
+}
+
+fn count_kinds(tally: &mut Tally, file: &[u8], told: &str) {
+    let text = told.to_string() + "sum 0\n";
+    let Ok(Outcome {
+        told: Told::Ran(ran),
+        ..
+    }) = Outcome::read(text.as_bytes())
+    else {
+        panic!("it has run");
+    };
+    let given = Given::read(file).unwrap();
+    let spans = check_run(&given, &ran).unwrap();
+    tally.ran(&given, &ran, &spans);
+}
+
+fn met(tally: &Tally, name: &str) -> u64 {
+    let kinds = tally.kinds();
+    let kind = kinds.iter().find(|kind| kind.name == name);
+    kind.expect("a kind").count
+}
+
+/// Of a run of [`advances`]: the schedule, the outcome, and the kinds of
+/// advances that are met once.
+type AdvanceRun = (
+    &'static [(usize, u8)],
+    &'static str,
+    &'static [&'static str],
+);
+
+const UNDISTURBED: &str = "advances told the value before, undisturbed";
+const AFTER_A_LOST_ROUND: &str = "advances told the value before after a lost round";
+const FROM_A2: &str = "advances told the value before from what A2 kept";
+const FROM_A2_AFTER_A_LOST_ROUND: &str =
+    "advances told the value before from what A2 kept after a lost round";
+const WENT_ROUND: &str = "advances whose sum went round";
+
+const ADVANCE_RUNS: [AdvanceRun; 6] = [
+    (
+        &[(9, 0)],
+        "word 0 460 1\nlog 6 0 0 4 4294966296\nanswer 8 0 0 4 4294966296\n",
+        &[UNDISTURBED, WENT_ROUND],
+    ),
+    (
+        &[(7, 0), (1, 0x10), (1, 0x20), (5, 0)],
+        "word 0 460 1\nlog 6 0 0 4 4294966296\nanswer 13 0 0 4 4294966296\n",
+        &[FROM_A2, WENT_ROUND],
+    ),
+    // With the answer stored it is not from what A2 kept.
+    (
+        &[(8, 0), (1, 0x10), (1, 0x20), (2, 0)],
+        "word 0 460 1\nlog 6 0 0 4 4294966296\nanswer 11 0 0 4 4294966296\n",
+        &[WENT_ROUND],
+    ),
+    // Cut off again in its recovery.
+    (
+        &[
+            (7, 0),
+            (1, 0x10),
+            (1, 0x20),
+            (2, 0),
+            (1, 0xF0),
+            (1, 0x20),
+            (5, 0),
+        ],
+        "word 0 460 1\nlog 6 0 0 4 4294966296\nanswer 17 0 0 4 4294966296\n",
+        &[FROM_A2, WENT_ROUND],
+    ),
+    (
+        &[(6, 0), (1, 0x10), (1, 0x20), (4, 0)],
+        "word 0 4294966296 0\nanswer 11 0 0 2 0\n",
+        &["advances told fail, no round lost"],
+    ),
+    (
+        &[(4, 0), (7, 1), (7, 0), (1, 0x10), (1, 0x20), (5, 0)],
+        "word 0 996 3\nlog 10 1 1 4 4294966296\nlog 17 0 0 4 4294966832\n\
+         answer 24 0 0 4 4294966832\n",
+        &[
+            AFTER_A_LOST_ROUND,
+            FROM_A2,
+            FROM_A2_AFTER_A_LOST_ROUND,
+            WENT_ROUND,
+            "rounds of advances lost to an advance",
+        ],
+    ),
+];
+
+#[test]
+fn kinds_of_advances_are_told_apart() {
+    for (parts, told, names) in ADVANCE_RUNS {
+        let schedule = times(parts);
+        let told = format!("run 2 1 3 {}\n{told}", schedule.len());
+        let mut tally = Tally::default();
+        count_kinds(&mut tally, &advances(&schedule), &told);
+        let kinds = tally.kinds();
+        let of_advances =
+            |kind: &&tally::Kind| kind.name.contains("advance") && !kind.name.contains("refused");
+        for kind in kinds.iter().filter(of_advances) {
+            let wanted = names.contains(&kind.name.as_str());
+            assert_eq!(kind.count, u64::from(wanted), "{}", kind.name);
+        }
+    }
+}
+
+/// A round lost to a compare row, and then told fail.
+#[test]
+fn a_round_lost_to_a_compare_and_told_fail() {
+    let mut file = advances(&times(&[
+        (4, 0),
+        (7, 1),
+        (3, 0),
+        (1, 0x10),
+        (1, 0x20),
+        (4, 0),
+    ]));
+    // Row 1 swaps 4,294,966,296 for 7.
+    file[31..43].copy_from_slice(&[1, 1, 0, 0, 0x18, 0xFC, 0xFF, 0xFF, 7, 0, 0, 0]);
+    let told = "run 2 1 3 20\nword 0 7 2\nlog 10 1 1 1 0\nanswer 19 0 0 2 0\n";
+    let mut tally = Tally::default();
+    count_kinds(&mut tally, &file, told);
+    assert_eq!(met(&tally, "advances told fail after a lost round"), 1);
+    assert_eq!(met(&tally, "advances told fail, no round lost"), 0);
+    assert_eq!(met(&tally, "rounds of advances lost to a compare"), 1);
+    assert_eq!(met(&tally, "rounds of advances lost to an advance"), 0);
+}
+
+/// Rows of the file begin at 19, 31 and 43. Kind 2 is faulty in version 1 only,
+/// an old of an advance is; 11 has the place of the row.
+#[test]
+fn refusals_of_advances_have_their_places_and_names() {
+    let with = |changes: &[(usize, u8)]| {
+        let mut file = advances(&[]);
+        for (at, byte) in changes {
+            file[*at] = *byte;
+        }
+        file
+    };
+    let mut of_version_1 = F.to_vec();
+    of_version_1[24] = 2;
+    let cases: [(Vec<u8>, usize, usize, &str); 6] = [
+        (
+            with(&[(35, 1)]),
+            9,
+            35,
+            "version 2 refused 9 old of an advance",
+        ),
+        (
+            with(&[(38, 1)]),
+            9,
+            35,
+            "version 2 refused 9 old of an advance",
+        ),
+        (
+            with(&[(32, 3)]),
+            9,
+            32,
+            "version 2 refused 9 kind 3 or more",
+        ),
+        (of_version_1, 9, 24, "version 1 refused 9 kind 2"),
+        (
+            with(&[(39, 0), (40, 0), (47, 7), (48, 0)]),
+            11,
+            31,
+            "version 2 refused 11 of an advance",
+        ),
+        (
+            with(&[(47, 7), (48, 0)]),
+            11,
+            43,
+            "version 2 refused 11 of a compare",
+        ),
+    ];
+    for (file, number, truth, name) in cases {
+        for place in 0..file.len() {
+            let told = check_with_sum(&file, &format!("refused {number} {place}\n"));
+            assert_eq!(told.is_ok(), place == truth);
+        }
+        let fault = fields::fault_at(&file, number, truth).unwrap();
+        let mut tally = Tally::default();
+        tally.refused(number, fault, Layout::of(&file)).unwrap();
+        for kind in tally.kinds() {
+            assert_eq!(kind.count, u64::from(kind.name == name), "{}", kind.name);
+        }
+    }
+    let text = objection(&advances(&[]), "refused 11 19\n");
+    assert_eq!(text, "no row puts in the same");
+}
+
 #[test]
 fn kinds_never_met_fail_the_check() {
     let mut out = Vec::new();
@@ -450,15 +810,35 @@ fn kinds_never_met_fail_the_check() {
     for version in 1..=2 {
         assert!(text.contains(&format!("never met: files of version {version} run\n")));
         let refused = format!("never met: version {version} refused");
-        for number in (4..=15).filter(|number| *number != 9) {
+        for number in (4..=15).filter(|number| *number != 9 && *number != 11) {
             assert!(text.contains(&format!("{refused} {number}\n")));
         }
-        for field in ["process", "kind", "word", "zero byte", "old", "new"] {
+        let kind = "kind 3 or more";
+        for field in ["process", kind, "word", "zero byte", "old of a read", "new"] {
             assert!(text.contains(&format!("{refused} 9 {field}\n")));
         }
+        assert!(text.contains(&format!("{refused} 11 of a compare\n")));
+        // Each of these in one version only.
+        for (fault, only) in [
+            ("9 kind 2", 1),
+            ("9 old of an advance", 2),
+            ("11 of an advance", 2),
+        ] {
+            let wanted = text.contains(&format!("{refused} {fault}\n"));
+            assert_eq!(wanted, version == only);
+        }
     }
-    assert_eq!(text.matches("never met: log verdict").count(), 3);
-    assert_eq!(text.matches("never met: answer verdict").count(), 4);
+    assert_eq!(text.matches("never met: log verdict").count(), 4);
+    assert_eq!(text.matches("never met: answer verdict").count(), 5);
+    assert_eq!(text.matches("never met: advances told").count(), 6);
+    for kind in [
+        "advances whose sum went round",
+        "compares that lost to an advance",
+        "rounds of advances lost to a compare",
+        "rounds of advances lost to an advance",
+    ] {
+        assert!(text.contains(&format!("never met: {kind}\n")));
+    }
     assert!(text.contains("never met: lost swaps\n"));
     assert!(text.contains("never met: starts cut off after 1 store\n"));
     assert!(text.contains("never met: starts cut off after 2 stores\n"));

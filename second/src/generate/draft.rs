@@ -54,6 +54,15 @@ impl DraftRow {
         }
     }
 
+    /// In a file of version 2: "old is 0, new is the amount".
+    pub fn advance(process: u8, word: u8, amount: u32) -> DraftRow {
+        DraftRow {
+            kind: 2,
+            new: amount,
+            ..DraftRow::read(process, word)
+        }
+    }
+
     fn write(&self, layout: Version, file: &mut Vec<u8>) {
         file.extend([self.process, self.kind, self.word, self.zero]);
         for value in [self.old, self.new] {
@@ -133,6 +142,8 @@ impl Draft {
 pub struct Palette {
     version: Version,
     values: Vec<u32>,
+    /// How many of a hundred changes of a word are advances.
+    pub advances: usize,
 }
 
 impl Palette {
@@ -148,7 +159,38 @@ impl Palette {
                 values.push(value);
             }
         }
-        Palette { version, values }
+        Palette {
+            version,
+            values,
+            advances: 0,
+        }
+    }
+
+    /// Whether the next change is to be an advance. Where there are none at
+    /// all, chance is not asked.
+    pub fn advances_next(&self, random: &mut Random) -> bool {
+        self.advances > 0 && random.percent(self.advances)
+    }
+
+    /// By how much an advance goes that meets this value: mostly by so many
+    /// bytes of one segment or two; now and then just past 4,294,967,295, to
+    /// another value, back, or anywhere. Never by 0.
+    pub fn amount(&self, from: u32, random: &mut Random) -> u32 {
+        let bytes = random.between(1, 1460) as u32;
+        let past_the_end = (random.below(3000) as u32).wrapping_sub(from);
+        let to_another = self.value_other_than(from, random).wrapping_sub(from);
+        let any = random.u32();
+        let amount = random.weighted([
+            (4, bytes),
+            (3, 1460),
+            (1, 2 * 1460),
+            (1, 65_536),
+            (3, past_the_end),
+            (4, to_another),
+            (1, u32::MAX),
+            (1, any),
+        ]);
+        amount.max(1)
     }
 
     pub fn value(&self, random: &mut Random) -> u32 {
@@ -172,6 +214,9 @@ impl Palette {
             return DraftRow::read(process, word);
         }
         let old = self.value(random);
+        if self.advances_next(random) {
+            return DraftRow::advance(process, word, self.amount(old, random));
+        }
         DraftRow::swap(process, word, old, self.value_other_than(old, random))
     }
 

@@ -122,8 +122,8 @@ fn wrong_length(draft: &mut Draft, random: &mut Random) {
     }
 }
 
-/// Refusal 9 in any of the six fields, at any row, and now and then in
-/// another field of the same row, before or behind it.
+/// Refusal 9 in any of the six fields, at any row and in rows of every kind,
+/// and now and then in another field of the same row, before or behind it.
 fn wrong_field(draft: &mut Draft, random: &mut Random) {
     let (processes, words, layout) = (draft.processes, draft.word_count, draft.layout);
     let Some(row) = any_row(draft, random) else {
@@ -131,18 +131,38 @@ fn wrong_field(draft: &mut Draft, random: &mut Random) {
     };
     loop {
         // A fault hides those behind it, so the later fields come more often.
-        match random.weighted([(2, 0), (3, 1), (3, 2), (4, 3), (6, 4), (6, 5)]) {
+        match random.weighted([(2, 0), (3, 1), (3, 2), (4, 3), (6, 4), (6, 5), (3, 6)]) {
             0 => row.process = at_least(processes, random),
-            1 => row.kind = at_least(2, random),
+            1 => row.kind = wrong_kind(layout, random),
             2 => row.word = at_least(words, random),
             3 => row.zero = at_least(1, random),
             4 => (row.kind, row.old) = (0, not_zero(layout, random)),
-            _ => (row.kind, row.old, row.new) = (0, 0, not_zero(layout, random)),
+            5 => (row.kind, row.old, row.new) = (0, 0, not_zero(layout, random)),
+            _ => wrong_advance(row, layout, random),
         }
         if random.percent(75) {
             break;
         }
     }
+}
+
+/// Kind 2 is one of version 2 only.
+fn wrong_kind(layout: Version, random: &mut Random) -> u8 {
+    match layout {
+        Version::One => at_least(2, random),
+        Version::Two => at_least(3, random),
+    }
+}
+
+/// An advance in a file of version 1, with nothing else wrong; or, in one of
+/// version 2, an advance with an old.
+fn wrong_advance(row: &mut DraftRow, layout: Version, random: &mut Random) {
+    row.kind = 2;
+    row.new = row.new.max(1);
+    row.old = match layout {
+        Version::One => 0,
+        Version::Two => not_zero(layout, random),
+    };
 }
 
 /// The least number as often as all the others.
@@ -173,10 +193,16 @@ fn wrong_row_order(draft: &mut Draft, random: &mut Random) {
     }
 }
 
+/// A compare row with old equal to new or, in version 2, an advance of 0.
 fn equal_for_equal(draft: &mut Draft, random: &mut Random) {
+    let advances = draft.layout == Version::Two && random.percent(50);
     if let Some(row) = any_row(draft, random) {
-        row.kind = 1;
-        row.new = row.old;
+        if advances {
+            (row.kind, row.old, row.new) = (2, 0, 0);
+        } else {
+            row.kind = 1;
+            row.new = row.old;
+        }
     }
 }
 

@@ -19,7 +19,10 @@ use crate::Ending;
 use draft::Draft;
 use random::Random;
 use scenes::Mood;
-use valid::{fullest_draft, long_draft, quiet_draft, reading_draft, short_draft, valid_draft};
+use valid::{
+    fullest_draft, long_draft, quiet_draft, reading_draft, short_advance_draft, short_draft,
+    valid_draft,
+};
 
 /// What sort of files a stream has.
 #[derive(Clone, Copy)]
@@ -36,6 +39,14 @@ pub enum Flavour {
     Quiet(Version),
     /// Valid files with the longest schedule, all of reads: a long log.
     Reads(Version),
+    /// Valid files of version 2 with the longest schedule, all of advances that
+    /// lose rounds to each other.
+    Advances,
+    /// The same with advances and swaps that lose to each other.
+    Mixed,
+    /// Short valid files of version 2 with advances that lose rounds, go round
+    /// and are cut off.
+    ShortAdvances,
 }
 
 impl Flavour {
@@ -51,6 +62,9 @@ impl Flavour {
             "quiet2" => Some(Flavour::Quiet(Version::Two)),
             "reads" => Some(Flavour::Reads(Version::One)),
             "reads2" => Some(Flavour::Reads(Version::Two)),
+            "advance2" => Some(Flavour::Advances),
+            "mixed2" => Some(Flavour::Mixed),
+            "short-advance2" => Some(Flavour::ShortAdvances),
             _ => None,
         }
     }
@@ -67,6 +81,9 @@ impl Flavour {
             Flavour::ManyLost(version) => exact_record(long_draft(version, Mood::Racing, random)),
             Flavour::Quiet(version) => exact_record(quiet_draft(version, random)),
             Flavour::Reads(version) => exact_record(reading_draft(version, random)),
+            Flavour::Advances => exact_record(long_draft(Version::Two, Mood::Pushing, random)),
+            Flavour::Mixed => exact_record(long_draft(Version::Two, Mood::Mixed, random)),
+            Flavour::ShortAdvances => exact_record(short_advance_draft(random)),
         }
     }
 }
@@ -263,6 +280,106 @@ mod tests {
             }
         }
         assert!(Flavour::named("any2").is_none() && Flavour::named("few1").is_none());
+    }
+
+    /// What the checker says of so many files of a flavour: whether there is no
+    /// violation, and how often each kind was met.
+    fn kinds_of(flavour: Flavour, seed: u64, count: u64) -> Vec<(String, u64)> {
+        let (mut stream, mut outcomes, mut said) = (Vec::new(), Vec::new(), Vec::new());
+        for record in records(seed, count, flavour) {
+            record.write(&mut stream).unwrap();
+            crate::sweep::print_record(&record, &mut outcomes).unwrap();
+        }
+        crate::checker::check(&mut &stream[..], &mut &outcomes[..], &mut said).unwrap();
+        let said = String::from_utf8(said).unwrap();
+        let (first, kinds) = said.split_once('\n').unwrap();
+        assert_eq!(first, format!("{count} records checked, no violation"));
+        let met = kinds.lines().filter(|line| !line.starts_with("never met"));
+        let kind = |line: &str| {
+            let (name, count) = line.rsplit_once(' ')?;
+            Some((name.to_string(), count.parse().ok()?))
+        };
+        met.filter_map(kind).collect()
+    }
+
+    fn met(kinds: &[(String, u64)], name: &str) -> u64 {
+        let kind = kinds.iter().find(|(other, _)| other == name);
+        kind.unwrap_or_else(|| panic!("no kind {name}")).1
+    }
+
+    const LOST: &str = "rounds of advances lost to an advance";
+    const WENT_ROUND: &str = "advances whose sum went round";
+
+    #[test]
+    fn advances_lose_rounds_to_each_other_and_go_round() {
+        let kinds = kinds_of(Flavour::Advances, 5, 20);
+        assert_eq!(met(&kinds, "files of version 2 run"), 20);
+        assert!(met(&kinds, LOST) > 500);
+        assert!(met(&kinds, WENT_ROUND) > 200);
+        for other in ["log verdict 0", "log verdict 1", "log verdict 3"] {
+            assert_eq!(met(&kinds, other), 0);
+        }
+    }
+
+    #[test]
+    fn advances_and_swaps_lose_to_each_other() {
+        let kinds = kinds_of(Flavour::Mixed, 5, 20);
+        assert_eq!(met(&kinds, "files of version 2 run"), 20);
+        for kind in [
+            LOST,
+            WENT_ROUND,
+            "lost swaps",
+            "compares that lost to an advance",
+            "rounds of advances lost to a compare",
+        ] {
+            assert!(met(&kinds, kind) > 50, "{kind}");
+        }
+    }
+
+    /// Enough of each for the few that are stored.
+    #[test]
+    fn short_files_of_advances_meet_every_kind_of_them() {
+        let kinds = kinds_of(Flavour::ShortAdvances, 5, 50);
+        let of_advances =
+            |(name, _): &&(String, u64)| name.contains("advance") && !name.starts_with("version");
+        assert_eq!(met(&kinds, "files of version 2 run"), 50);
+        assert_eq!(kinds.iter().filter(of_advances).count(), 10);
+        for (kind, count) in kinds.iter().filter(of_advances) {
+            assert!(*count >= 3, "{kind}: {count}");
+        }
+    }
+
+    /// Also those that are rare; so a stream of 20,000 meets each many times.
+    #[test]
+    fn every_kind_is_met_in_a_few_thousand_files() {
+        for flavour in [Flavour::Any, Flavour::Short] {
+            for (kind, count) in kinds_of(flavour, 29, 4_000) {
+                assert!(count >= 5, "{kind}: {count}");
+            }
+        }
+    }
+
+    /// A file of version 1 has no advance unless it is damaged.
+    #[test]
+    fn advances_are_in_files_of_version_2_only() {
+        let mut random = Random::seeded(37);
+        for _ in 0..300 {
+            let draft = valid_draft(Version::One, &mut random);
+            assert!(draft.rows.iter().all(|row| row.kind < 2));
+        }
+        let drafts: Vec<Draft> = (0..300)
+            .map(|_| valid_draft(Version::Two, &mut random))
+            .collect();
+        let advances = |draft: &&Draft| draft.rows.iter().any(|row| row.kind == 2);
+        let with = drafts.iter().filter(advances).count();
+        assert!(with > 100 && with < 250, "{with} files with advances");
+        let rows = drafts.iter().flat_map(|draft| &draft.rows);
+        let advances = rows.filter(|row| row.kind == 2);
+        assert!(advances.clone().all(|row| row.old == 0 && row.new > 0));
+        let amounts = |test: fn(u32) -> bool| advances.clone().filter(|row| test(row.new)).count();
+        assert!(amounts(|amount| amount <= 1_460) > 100);
+        assert!(amounts(|amount| amount > 1 << 31) > 100);
+        assert!(amounts(|amount| amount == u32::MAX) > 10);
     }
 
     /// Of files of version 2 that are not refused: whether some value is over

@@ -23,7 +23,8 @@ pub const SHORT_STEPS: usize = START_STEPS + 3;
 pub const STEPS_TO_A1: usize = START_STEPS + 1;
 /// After this many steps a swap has set its checkpoint.
 pub const STEPS_TO_A3: usize = START_STEPS + 3;
-/// After this many steps a swap has done its A4.
+/// After this many steps a swap has done its A4. An advance that has lost then
+/// goes back to A1, as if it had done [`START_STEPS`].
 pub const STEPS_TO_A4: usize = START_STEPS + 4;
 
 /// How large a file is to be.
@@ -53,8 +54,8 @@ pub struct Script<'r> {
 pub struct Opened {
     /// How many steps it takes when nobody disturbs it.
     pub steps: usize,
-    /// The value that it puts in, if it is to swap.
-    pub new: Option<u32>,
+    /// What it is to do to its word, if anything.
+    pub change: Option<Change>,
 }
 
 impl Opened {
@@ -62,13 +63,44 @@ impl Opened {
     /// another value.
     pub const SHORT: Opened = Opened {
         steps: SHORT_STEPS,
-        new: None,
+        change: None,
     };
 }
 
+/// What an operation is to do to its word.
+#[derive(Clone, Copy)]
+pub enum Change {
+    Swap { old: u32, new: u32 },
+    Advance { amount: u32 },
+}
+
+impl Change {
+    /// Whether it goes on to a swap when it has read this value.
+    pub fn meets(self, value: u32) -> bool {
+        match self {
+            Change::Swap { old, .. } => old == value,
+            Change::Advance { .. } => true,
+        }
+    }
+
+    /// What its swap leaves of the value that it has read.
+    pub fn leaves(self, value: u32) -> u32 {
+        match self {
+            Change::Swap { new, .. } => new,
+            Change::Advance { amount } => value.wrapping_add(amount),
+        }
+    }
+
+    pub fn is_advance(self) -> bool {
+        matches!(self, Change::Advance { .. })
+    }
+}
+
 impl<'r> Script<'r> {
-    pub fn blank(size: Size, random: &'r mut Random) -> Script<'r> {
-        let palette = Palette::pick(size.version, random);
+    /// So many of a hundred changes are to be advances.
+    pub fn blank(size: Size, advances: usize, random: &'r mut Random) -> Script<'r> {
+        let mut palette = Palette::pick(size.version, random);
+        palette.advances = advances;
         let start_words: Vec<u64> = (0..size.words)
             .map(|_| palette.start_word(random))
             .collect();
@@ -140,25 +172,48 @@ impl<'r> Script<'r> {
         self.schedule.push(byte);
     }
 
-    /// A row that swaps the word's value as guessed; its new value.
-    pub fn open_next_swap(&mut self, process: usize, word: usize) -> u32 {
+    /// A row that changes the word's value as guessed: a swap of it, or an
+    /// advance.
+    pub fn open_next(&mut self, process: usize, word: usize) -> Change {
+        if self.palette.advances_next(self.random) {
+            return self.open_next_advance(process, word);
+        }
         let old = self.values[word];
         let new = self.palette.value_other_than(old, self.random);
         self.open_swap(process, word, old, new);
-        new
+        Change::Swap { old, new }
     }
 
-    pub fn open_swap(&mut self, process: usize, word: usize, old: u32, new: u32) {
+    pub fn open_next_advance(&mut self, process: usize, word: usize) -> Change {
+        let amount = self.palette.amount(self.values[word], self.random);
+        self.open_advance(process, word, amount);
+        Change::Advance { amount }
+    }
+
+    /// A row that brings one value to another, by the one kind or by the other.
+    pub fn open_from_to(&mut self, process: usize, word: usize, from: u32, to: u32) {
+        if self.palette.advances_next(self.random) {
+            self.open_advance(process, word, to.wrapping_sub(from).max(1));
+        } else {
+            self.open_swap(process, word, from, to);
+        }
+    }
+
+    fn open_swap(&mut self, process: usize, word: usize, old: u32, new: u32) {
         self.rows[process].push(DraftRow::swap(process as u8, word as u8, old, new));
     }
 
-    /// Mostly a swap; else a read, or a compare that meets another value.
+    fn open_advance(&mut self, process: usize, word: usize, amount: u32) {
+        self.rows[process].push(DraftRow::advance(process as u8, word as u8, amount));
+    }
+
+    /// Mostly a change; else a read, or a compare that meets another value.
     pub fn open_any(&mut self, process: usize, word: usize) -> Opened {
         let choice = self.random.below(10);
         if choice < 6 {
             return Opened {
                 steps: SWAP_STEPS,
-                new: Some(self.open_next_swap(process, word)),
+                change: Some(self.open_next(process, word)),
             };
         }
         if choice < 8 {
@@ -173,10 +228,29 @@ impl<'r> Script<'r> {
         Opened::SHORT
     }
 
-    /// A swap from beginning to end that nobody disturbs.
-    pub fn whole_swap(&mut self, process: usize, word: usize) {
-        self.values[word] = self.open_next_swap(process, word);
+    /// A change from beginning to end that nobody disturbs.
+    pub fn whole_change(&mut self, process: usize, word: usize) {
+        let change = self.open_next(process, word);
+        self.carry_out(change, word);
         self.steps(process, SWAP_STEPS);
+    }
+
+    /// The word's value behind a change that has succeeded.
+    pub fn carry_out(&mut self, change: Change, word: usize) {
+        self.values[word] = change.leaves(self.values[word]);
+    }
+
+    /// The rest of a change of which so many steps are done, behind its A1,
+    /// and which is to lose: a compare row ends, an advance goes back to A1 and
+    /// is not disturbed again.
+    pub fn rest_of_a_loser(&mut self, process: usize, word: usize, change: Change, done: usize) {
+        if change.is_advance() {
+            self.steps(process, STEPS_TO_A4 - done);
+            self.steps(process, SWAP_STEPS - START_STEPS);
+            self.carry_out(change, word);
+        } else {
+            self.steps(process, SWAP_STEPS - done);
+        }
     }
 
     pub fn any_process(&mut self) -> usize {

@@ -26,6 +26,18 @@ pub fn short_draft(version: Version, random: &mut Random) -> Draft {
     draft_of(size, random)
 }
 
+/// The same, of advances that lose rounds and are cut off.
+pub fn short_advance_draft(random: &mut Random) -> Draft {
+    let size = Size {
+        version: Version::Two,
+        processes: random.between(2, 4),
+        words: random.between(1, 2),
+        schedule: random.between(30, 75),
+        spare_rows: 0,
+    };
+    within_the_row_limit(write_scenes(size, Mood::Pressed, random))
+}
+
 /// A file with the longest schedule, all of scenes of one mood.
 pub fn long_draft(version: Version, mood: Mood, random: &mut Random) -> Draft {
     let size = Size {
@@ -139,7 +151,10 @@ fn any_size(version: Version, random: &mut Random) -> Size {
 /// Any rows of few values, and a schedule in bursts of one process, with
 /// crashes and wakes wherever they fall.
 fn write_wild(size: Size, random: &mut Random) -> Draft {
-    let palette = Palette::pick(size.version, random);
+    let mut palette = Palette::pick(size.version, random);
+    if size.version == Version::Two {
+        palette.advances = random.one_of([0, 30, 80]);
+    }
     let words = (0..size.words)
         .map(|_| palette.start_word(random))
         .collect();

@@ -13,7 +13,8 @@ use Stage::{A1, A2, A3, A4, A5, A6, V1, V2, V3, V4, V5, V6};
 fn any_answer(random: &mut Random) -> Option<Answer> {
     let value = Some(Answer::Value(random.one_of([7, 9])));
     let (no, yes) = (Some(Answer::False), Some(Answer::True));
-    random.weighted([(3, None), (1, value), (2, no), (1, yes)])
+    let was = Some(Answer::Was(random.one_of([7, 9])));
+    random.weighted([(3, None), (1, value), (2, no), (1, yes), (2, was)])
 }
 
 fn any_number(random: &mut Random) -> u32 {
@@ -49,15 +50,23 @@ fn any_record(random: &mut Random) -> Record {
         stored: any_answer(random),
         checkpoint: random.percent(50),
         kept_bit: random.percent(50),
+        kept_value: any_number(random),
         begun: random.weighted([(6, begun), (1, 0), (1, 3), (1, usize::MAX)]),
     }
 }
 
 /// One record of the list is anything, and so is one beyond P: two would
-/// hardly ever be sound together.
+/// hardly ever be sound together. Half of the files have advances.
 fn any_bench(random: &mut Random) -> Bench {
     let process = random.below(2);
-    let mut bench = Bench::with(process, any_record(random));
+    let record = any_record(random);
+    let mut bench = if random.percent(50) {
+        Bench::with(process, record)
+    } else {
+        Bench::of_advances(process, record)
+    };
+    // So that it is often the word that was read.
+    bench.buffers.words[0] = 7;
     bench.records.push(any_record(random));
     let step = process as u8;
     bench.byte = random.one_of([step, step, step, 0x01, 0x10, 0x11, 0x21, 0xF0, 0x30]);
@@ -90,7 +99,7 @@ fn assert_one_row_more_at_most(before: &[u32], count: usize, after: &[u32], new_
 #[test]
 fn one_record_one_word_and_one_row_at_most() {
     let mut random = Random::seeded(51);
-    let (mut refused, mut logged) = (0, 0);
+    let (mut refused, mut logged, mut went_back) = (0, 0, 0);
     for _ in 0..60_000 {
         let bench = any_bench(&mut random);
         // That a refusal changes nothing is asserted there.
@@ -110,7 +119,19 @@ fn one_record_one_word_and_one_row_at_most() {
         assert!(changed <= 1 || bench.byte == 0xF0);
         assert_eq!(bench.records[2], after.records[2]);
         logged += after.counts.log - bench.counts.log;
+        let at = |bench: &Bench, stage| {
+            let at_stage = |record: &&Record| match record.status {
+                Status::AtWork(work) => work.stage == stage,
+                _ => false,
+            };
+            bench.records[..2].iter().filter(at_stage).count()
+        };
+        if at(&bench, A4) > at(&after, A4) && at(&after, A1) > at(&bench, A1) {
+            went_back += 1;
+            assert_eq!((then, bench.counts), (now, after.counts));
+        }
     }
     assert!(refused > 10_000 && refused < 59_000, "{refused} refused");
     assert!(logged > 100, "{logged} logged");
+    assert!(went_back > 20, "{went_back} went back to A1");
 }

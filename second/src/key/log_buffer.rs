@@ -33,7 +33,9 @@ pub fn write(buffer: &mut [u32], place: usize, row: [u32; ROW]) {
 
 /// "the front-most log row of a successful swap whose position is larger than
 /// its A1's and whose row number names a row on the same word": its position.
-/// "a row number not in the file names none".
+/// "a row number not in the file names none". A row is one of a successful swap
+/// by its verdict: true, or that of an advance, whose swap "is a successful
+/// swap for others' lost ones" (change request 6).
 pub fn first_swap_after(log: &[u32], rows: usize, a1: u32, own: &Row, file: &[Row]) -> Option<u32> {
     let names_the_word = |number: u32| {
         let named = usize::try_from(number).ok().and_then(|at| file.get(at));
@@ -42,7 +44,7 @@ pub fn first_swap_after(log: &[u32], rows: usize, a1: u32, own: &Row, file: &[Ro
     pieces(log)
         .take(rows)
         .find(|[position, _, row, verdict, _]| {
-            *verdict == 1 && *position > a1 && names_the_word(*row)
+            matches!(*verdict, 1 | 4) && *position > a1 && names_the_word(*row)
         })
         .map(|[position, ..]| position)
 }

@@ -7,6 +7,8 @@ mod sound;
 mod step;
 
 #[cfg(test)]
+mod advance_tests;
+#[cfg(test)]
 mod any_lent_tests;
 #[cfg(test)]
 mod order_tests;

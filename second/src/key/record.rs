@@ -15,6 +15,9 @@ pub struct Record {
     pub stored: Option<Answer>,
     pub checkpoint: bool,
     pub kept_bit: bool,
+    /// "A2 keeps the value read beside the bit, in one store" (change request
+    /// 6): that of an advance does.
+    pub kept_value: u32,
     pub begun: usize,
 }
 
@@ -62,16 +65,20 @@ pub enum Answer {
     False,
     True,
     Value(u32),
+    /// Of an advance: "The answer is the value before".
+    Was(u32),
 }
 
 impl Record {
-    /// "At first all are idle with nothing stored and both bits 0."
+    /// "At first all are idle with nothing stored and both bits 0." So is the
+    /// kept value.
     pub const AT_FIRST: Record = Record {
         status: Status::Idle,
         open_row: None,
         stored: None,
         checkpoint: false,
         kept_bit: false,
+        kept_value: 0,
         begun: 0,
     };
 }
@@ -95,6 +102,7 @@ impl Answer {
             Answer::False => Verdict::False,
             Answer::True => Verdict::True,
             Answer::Value(value) => Verdict::ValueRead(value),
+            Answer::Was(value) => Verdict::ValueBefore(value),
         }
     }
 }

@@ -20,7 +20,7 @@ pub fn is_sound(record: &Record, process: usize, rows: &[Row]) -> bool {
         || no_open_row_at_a_later_stage(record)
         || announcing_with_no_row_left(record, &own)
         || no_answer(record)
-        || stage_or_answer_of_the_other_kind(record, rows))
+        || stage_or_answer_of_another_kind(record, rows))
 }
 
 /// "more rows begun than its process has"
@@ -69,8 +69,9 @@ fn no_answer(record: &Record) -> bool {
 }
 
 /// "a stage or answer its row's kind never has". Only an open row has a kind
-/// to speak of; a number that names no row is caught further up.
-fn stage_or_answer_of_the_other_kind(record: &Record, rows: &[Row]) -> bool {
+/// to speak of; a number that names no row is caught further up. An advance has
+/// the stages of a compare row.
+fn stage_or_answer_of_another_kind(record: &Record, rows: &[Row]) -> bool {
     let Some(row) = record.open_row.and_then(|number| rows.get(number)) else {
         return false;
     };
@@ -79,12 +80,9 @@ fn stage_or_answer_of_the_other_kind(record: &Record, rows: &[Row]) -> bool {
         Status::Down | Status::Idle | Status::Announcing(_) => (None, None),
     };
     let mut answers = [record.stored, to_store].into_iter().flatten();
-    match row.operation {
-        Operation::Read => {
-            stage.is_some_and(is_for_swaps_only) || answers.any(|answer| !is_value(answer))
-        }
-        Operation::CompareAndSwap { .. } => answers.any(is_value),
-    }
+    let reads = row.operation == Operation::Read;
+    (reads && stage.is_some_and(is_for_swaps_only))
+        || answers.any(|answer| !may_answer(row.operation, answer))
 }
 
 /// A read goes from A1 to A5. Its checkpoint is 0, since nothing but A3 sets
@@ -94,7 +92,12 @@ fn is_for_swaps_only(stage: Stage) -> bool {
     matches!(stage, A2 | A3 | A4 | V3 | V4)
 }
 
-/// A read answers with the value, a compare row with false or true.
-fn is_value(answer: Answer) -> bool {
-    matches!(answer, Answer::Value(_))
+/// A read answers with the value, a compare row with false or true, an advance
+/// with the value before.
+fn may_answer(operation: Operation, answer: Answer) -> bool {
+    match operation {
+        Operation::Read => matches!(answer, Answer::Value(_)),
+        Operation::CompareAndSwap { .. } => matches!(answer, Answer::False | Answer::True),
+        Operation::Advance { .. } => matches!(answer, Answer::Was(_)),
+    }
 }

@@ -1,8 +1,9 @@
 //! One step of one process over its lent record and the lent buffers.
 //!
 //! These are the steps of document 01 with the announcement of change
-//! request 1, written for records and numbers that a panel lends. They are
-//! not those of [`crate::machine::run`], which a test holds them against.
+//! request 1 and the advance of change request 6, written for records and
+//! numbers that a panel lends. They are not those of [`crate::machine::run`],
+//! which a test holds them against.
 
 use crate::machine::{Buffers, Entry, Operation, Row, Store, Verdict, Word};
 
@@ -69,7 +70,7 @@ impl Turn<'_> {
         };
         match work.stage {
             Stage::A1 => self.read_the_word(number, work),
-            Stage::A2 => self.keep_the_bit(work),
+            Stage::A2 => self.keep(number, work),
             Stage::A3 => self.set_the_checkpoint(work),
             Stage::A4 => self.try_to_swap(number, work),
             Stage::A5 => self.store_the_answer(number, work),
@@ -77,7 +78,7 @@ impl Turn<'_> {
             Stage::V1 => self.look_for_an_answer(work),
             Stage::V2 => self.look_at_the_checkpoint(work),
             Stage::V3 => self.look_at_the_flip_bit(number, work),
-            Stage::V4 => self.store_true(work),
+            Stage::V4 => self.store_what_the_swap_answers(number, work),
             Stage::V5 => self.return_the_answer(number, self.record.stored),
             Stage::V6 => self.return_and_close(number, Verdict::Fail),
         }
@@ -92,7 +93,8 @@ impl Turn<'_> {
     }
 
     /// "A1: read the word. A read row, or a value other than old (answer
-    /// false), goes to A5; otherwise A2."
+    /// false), goes to A5; otherwise A2." An advance is "a compare that always
+    /// matches".
     fn read_the_word(&mut self, number: usize, work: Work) {
         let row = self.rows[number];
         let word_read = self.word(row);
@@ -101,7 +103,9 @@ impl Turn<'_> {
             Operation::CompareAndSwap { old, .. } if word_read.value != old => {
                 (Stage::A5, Some(Answer::False))
             }
-            Operation::CompareAndSwap { .. } => (Stage::A2, work.to_store),
+            Operation::CompareAndSwap { .. } | Operation::Advance { .. } => {
+                (Stage::A2, work.to_store)
+            }
         };
         self.go_on(Work {
             stage,
@@ -112,9 +116,13 @@ impl Turn<'_> {
         });
     }
 
-    /// "A2: keep the opposite of the own flip bit as just read."
-    fn keep_the_bit(&mut self, work: Work) {
+    /// "A2: keep the opposite of the own flip bit as just read." Of an advance
+    /// it "keeps the value read beside the bit"; a compare leaves what is there.
+    fn keep(&mut self, number: usize, work: Work) {
         self.record.kept_bit = !work.word_read.flip_bit(self.process);
+        if let Operation::Advance { .. } = self.rows[number].operation {
+            self.record.kept_value = work.word_read.value;
+        }
         let stage = Stage::A3;
         self.go_on(Work { stage, ..work });
     }
@@ -128,23 +136,35 @@ impl Turn<'_> {
 
     /// "A4: if the whole word, bits included, is still as read, put in new
     /// and turn the own flip bit: true. Otherwise false. Then A5." "A swap
-    /// that succeeds enters the log at A4 with its position."
+    /// that succeeds enters the log at A4 with its position." An advance puts
+    /// in the sum, which "goes round past 4,294,967,295 to 0", and its "lost
+    /// swap goes back to A1" (change request 6).
     fn try_to_swap(&mut self, number: usize, work: Work) {
         let row = self.rows[number];
-        // A read row never comes to A4: 21.
-        let Operation::CompareAndSwap { new, .. } = row.operation else {
-            return;
-        };
         let word = self.word(row);
-        let swaps = word == work.word_read;
-        if swaps {
+        let (new, won, lost) = match row.operation {
+            // A read row never comes to A4: 21.
+            Operation::Read => return,
+            Operation::CompareAndSwap { new, .. } => (new, Answer::True, Some(Answer::False)),
+            Operation::Advance { amount } => {
+                let new = word.value.wrapping_add(amount);
+                (new, Answer::Was(word.value), None)
+            }
+        };
+        let to_store = if word == work.word_read {
             self.buffers.words[row.word] = word.swapped(self.process, new).number();
-            self.enter_the_log(number, self.position, Answer::True);
-        }
+            self.enter_the_log(number, self.position, won);
+            Some(won)
+        } else {
+            lost
+        };
         self.go_on(Work {
-            stage: Stage::A5,
+            stage: match to_store {
+                Some(_) => Stage::A5,
+                None => Stage::A1,
+            },
             a4: self.position,
-            to_store: Some(if swaps { Answer::True } else { Answer::False }),
+            to_store,
             ..work
         });
     }
@@ -172,7 +192,7 @@ impl Turn<'_> {
     fn log_position(&self, number: usize, work: Work, answer: Answer) -> Option<u32> {
         let row = &self.rows[number];
         match (row.operation, answer) {
-            (_, Answer::True) => None,
+            (_, Answer::True | Answer::Was(_)) => None,
             (Operation::CompareAndSwap { old, .. }, _) if work.word_read.value == old => {
                 let (log, count) = (&self.buffers.log, self.counts.log);
                 let swap = first_swap_after(log, count, work.a1, row, self.rows);
@@ -237,9 +257,13 @@ impl Turn<'_> {
         self.go_on_if(swapped, Stage::V4, Stage::V6, work);
     }
 
-    /// "V4: store true, then V5." "V4 adds nothing" to the log.
-    fn store_true(&mut self, work: Work) {
-        self.record.stored = Some(Answer::True);
+    /// "V4: store true, then V5." "V4 adds nothing" to the log. Of an advance
+    /// it is the value before: "recovery takes it from what A2 kept".
+    fn store_what_the_swap_answers(&mut self, number: usize, work: Work) {
+        self.record.stored = Some(match self.rows[number].operation {
+            Operation::Advance { .. } => Answer::Was(self.record.kept_value),
+            Operation::Read | Operation::CompareAndSwap { .. } => Answer::True,
+        });
         let stage = Stage::V5;
         self.go_on(Work { stage, ..work });
     }

@@ -16,6 +16,22 @@ const FILE: [u8; 47] = [
     0, 0x10, 0x21, 0xF0, // schedule
 ];
 
+/// The same counts in a file of version 2 with an advance for each process: the
+/// rows begin at 27, 39 and 51, and the file has 67 bytes. Word 0 is 1,000 below
+/// the end.
+const FILE_OF_ADVANCES: [u8; 67] = [
+    0x53, 0x57, 0x52, 2, 0, 2, 2, 3, 0, 4, 0, // header
+    0x18, 0xFC, 0xFF, 0xFF, 0, 0, 0, 0, // word 0: 4,294,966,296
+    9, 0, 0, 0, 1, 0, 0, 0, // word 1: 9, bit 32
+    0, 2, 0, 0, 0, 0, 0, 0, 0xB4, 5, 0, 0, // row 0: p0, word 0, by 1,460
+    0, 1, 1, 0, 9, 0, 0, 0, 7, 0, 0, 0, // row 1: p0, word 1, 9>7
+    1, 2, 1, 0, 0, 0, 0, 0, 0xFF, 0xFF, 0xFF, 0xFF, // row 2: p1, word 1, back by 1
+    0, 0x10, 0x21, 0xF0, // schedule
+];
+
+/// What word 0 of that file starts from.
+pub const NEAR_THE_END: u32 = 4_294_966_296;
+
 #[derive(Clone, Debug, PartialEq, Eq)]
 pub struct Bench {
     pub file: Vec<u8>,
@@ -48,6 +64,14 @@ impl Bench {
     pub fn with(process: usize, record: Record) -> Bench {
         let mut bench = Bench::new();
         bench.records[process] = record;
+        bench
+    }
+
+    /// The same over the file of advances.
+    pub fn of_advances(process: usize, record: Record) -> Bench {
+        let mut bench = Bench::with(process, record);
+        bench.file = FILE_OF_ADVANCES.to_vec();
+        bench.buffers.words = vec![NEAR_THE_END.into(), 0x0001_0000_0009];
         bench
     }
 
@@ -85,6 +109,15 @@ pub fn swapping(status: Status) -> Record {
         open_row: Some(0),
         begun: 1,
         ..Record::AT_FIRST
+    }
+}
+
+/// Process 0 with its advance open, in whatever it is doing, over the file of
+/// advances. A value of an advance before is kept.
+pub fn advancing(status: Status) -> Record {
+    Record {
+        kept_value: 77,
+        ..swapping(status)
     }
 }
 

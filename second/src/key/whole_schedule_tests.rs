@@ -129,6 +129,10 @@ fn files_with_the_longest_schedule_end_as_their_runs_do() {
         }
         assert_eq!(hold_all(33, 10, Flavour::Quiet(version)), (10, 0));
     }
+    for flavour in [Flavour::Advances, Flavour::Mixed] {
+        let (files, rows) = hold_all(33, 20, flavour);
+        assert!(files == 20 && rows > 1_000, "{files} files, {rows} rows");
+    }
 }
 
 /// Not only at the end: after every byte the buffers are those of a run that

@@ -2,7 +2,7 @@
 
 use super::action::Action;
 use super::log::{Entry, Log, Verdict};
-use super::process::{Attempt, Due, Process, Stage, Status};
+use super::process::{Attempt, Due, KeptAtA2, Process, Stage, Status};
 use super::row::{Operation, Row};
 use super::run_file::RunFile;
 use super::word::Word;
@@ -104,7 +104,7 @@ impl<'f> Machine<'f> {
     fn carry_out_stage(&mut self, turn: Turn, stage: Stage) -> Option<Stage> {
         match stage {
             Stage::A1 => Some(self.read_the_word(turn)),
-            Stage::A2(attempt) => Some(self.keep_the_bit(turn, attempt)),
+            Stage::A2(attempt) => Some(self.keep(turn, attempt)),
             Stage::A3(attempt) => Some(self.set_the_checkpoint(turn, attempt)),
             Stage::A4(attempt) => Some(self.try_to_swap(turn, attempt)),
             Stage::A5 { answer, due } => Some(self.store_the_answer(turn, answer, due)),
@@ -112,18 +112,27 @@ impl<'f> Machine<'f> {
             Stage::V1 => Some(self.look_for_an_answer(turn)),
             Stage::V2 => Some(self.look_at_the_checkpoint(turn)),
             Stage::V3 => Some(self.look_at_the_flip_bit(turn)),
-            Stage::V4 => Some(self.store_true(turn)),
+            Stage::V4 => Some(self.store_the_answer_of_a_swap(turn)),
             Stage::V5 { answer } => self.return_and_close(turn, answer),
             Stage::V6 => self.return_and_close(turn, Verdict::Fail),
         }
     }
 
     /// "A1: read the word. A read row, or a value other than old (answer
-    /// false), goes to A5; otherwise A2."
+    /// false), goes to A5; otherwise A2." The steps of an advance "are those of
+    /// a compare that always matches"; "The sum goes round past 4,294,967,295
+    /// to 0" (change request 6).
     fn read_the_word(&self, turn: Turn) -> Stage {
         let row = self.rows[turn.row];
         let seen = self.words[row.word];
         let due = Due::AtA1(turn.position);
+        let attempt = |new| {
+            Stage::A2(Attempt {
+                seen,
+                new,
+                a1: turn.position,
+            })
+        };
         match row.operation {
             Operation::Read => Stage::A5 {
                 answer: Verdict::ValueRead(seen.value),
@@ -133,17 +142,23 @@ impl<'f> Machine<'f> {
                 answer: Verdict::False,
                 due,
             },
-            Operation::CompareAndSwap { new, .. } => Stage::A2(Attempt {
-                seen,
-                new,
-                a1: turn.position,
-            }),
+            Operation::CompareAndSwap { new, .. } => attempt(new),
+            Operation::Advance { amount } => attempt(seen.value.wrapping_add(amount)),
         }
     }
 
-    /// "A2: keep the opposite of the own flip bit as just read."
-    fn keep_the_bit(&mut self, turn: Turn, attempt: Attempt) -> Stage {
-        self.processes[turn.process].kept.kept_bit = !attempt.seen.flip_bit(turn.process);
+    /// "A2: keep the opposite of the own flip bit as just read." That of an
+    /// advance "keeps the value read beside the bit, in one store"; that of a
+    /// compare leaves the value that was kept before.
+    fn keep(&mut self, turn: Turn, attempt: Attempt) -> Stage {
+        let kept = &mut self.processes[turn.process].kept.at_a2;
+        *kept = KeptAtA2 {
+            bit: !attempt.seen.flip_bit(turn.process),
+            value: match self.rows[turn.row].operation {
+                Operation::Advance { .. } => attempt.seen.value,
+                Operation::Read | Operation::CompareAndSwap { .. } => kept.value,
+            },
+        };
         Stage::A3(attempt)
     }
 
@@ -154,25 +169,31 @@ impl<'f> Machine<'f> {
     }
 
     /// "A4: if the whole word, bits included, is still as read, put in new
-    /// and turn the own flip bit: true. Otherwise false. Then A5."
+    /// and turn the own flip bit: true. Otherwise false. Then A5." Of an
+    /// advance the answer is the value before, and "a lost swap goes back to
+    /// A1", with the checkpoint as A3 has left it.
     fn try_to_swap(&mut self, turn: Turn, attempt: Attempt) -> Stage {
-        let word = &mut self.words[self.rows[turn.row].word];
+        let Row {
+            word, operation, ..
+        } = self.rows[turn.row];
+        let word = &mut self.words[word];
         if *word == attempt.seen {
             *word = word.swapped(turn.process, attempt.new);
+            let answer = answer_of_a_swap(operation, attempt.seen.value);
             // "A swap that succeeds enters the log at A4 with its position."
-            self.log.add(turn.entry(turn.position, Verdict::True));
-            Stage::A5 {
-                answer: Verdict::True,
-                due: Due::Nothing,
-            }
-        } else {
-            Stage::A5 {
+            self.log.add(turn.entry(turn.position, answer));
+            let due = Due::Nothing;
+            return Stage::A5 { answer, due };
+        }
+        match operation {
+            Operation::Advance { .. } => Stage::A1,
+            Operation::Read | Operation::CompareAndSwap { .. } => Stage::A5 {
                 answer: Verdict::False,
                 due: Due::LostSwap {
                     a1: attempt.a1,
                     a4: turn.position,
                 },
-            }
+            },
         }
     }
 
@@ -230,17 +251,29 @@ impl<'f> Machine<'f> {
     /// else V6."
     fn look_at_the_flip_bit(&self, turn: Turn) -> Stage {
         let word = self.words[self.rows[turn.row].word];
-        if word.flip_bit(turn.process) == self.processes[turn.process].kept.kept_bit {
+        if word.flip_bit(turn.process) == self.processes[turn.process].kept.at_a2.bit {
             Stage::V4
         } else {
             Stage::V6
         }
     }
 
-    /// "V4: store true, then V5." "V4 adds nothing" to the log.
-    fn store_true(&mut self, turn: Turn) -> Stage {
-        let answer = Verdict::True;
-        self.processes[turn.process].kept.stored = Some(answer);
+    /// "V4: store true, then V5." "V4 adds nothing" to the log. Of an advance
+    /// the answer is the value before, and "recovery takes it from what A2
+    /// kept".
+    fn store_the_answer_of_a_swap(&mut self, turn: Turn) -> Stage {
+        let kept = &mut self.processes[turn.process].kept;
+        let answer = answer_of_a_swap(self.rows[turn.row].operation, kept.at_a2.value);
+        kept.stored = Some(answer);
         Stage::V5 { answer }
+    }
+}
+
+/// What a swap that has succeeded answers: true, or for an advance the value
+/// before.
+fn answer_of_a_swap(operation: Operation, before: u32) -> Verdict {
+    match operation {
+        Operation::Advance { .. } => Verdict::ValueBefore(before),
+        Operation::Read | Operation::CompareAndSwap { .. } => Verdict::True,
     }
 }

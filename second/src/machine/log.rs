@@ -3,24 +3,34 @@
 use std::collections::BTreeMap;
 use std::ops::Bound::{Excluded, Unbounded};
 
-/// "Verdicts: 0 false, 1 true, 2 fail (answers only), 3 value read."
+/// "Verdicts: 0 false, 1 true, 2 fail (answers only), 3 value read." Of an
+/// advance "The answer is the value before, verdict 4 with that value" (change
+/// request 6).
 #[derive(Clone, Copy, Debug, PartialEq, Eq)]
 pub enum Verdict {
     False,
     True,
     Fail,
     ValueRead(u32),
+    ValueBefore(u32),
 }
 
 impl Verdict {
+    /// Whether a log row of this verdict is one of a successful swap: also the
+    /// swap of an advance "is a successful swap for others' lost ones".
+    fn is_of_a_swap(self) -> bool {
+        matches!(self, Verdict::True | Verdict::ValueBefore(_))
+    }
+
     /// The verdict's number and the value beside it: "The value is 0 unless
-    /// the verdict is 3."
+    /// the verdict is 3", or 4.
     fn numbers(self) -> (u32, u32) {
         match self {
             Verdict::False => (0, 0),
             Verdict::True => (1, 0),
             Verdict::Fail => (2, 0),
             Verdict::ValueRead(value) => (3, value),
+            Verdict::ValueBefore(value) => (4, value),
         }
     }
 }
@@ -86,7 +96,7 @@ impl Log {
         self.entries
             .range((Excluded(last_of_a1), Unbounded))
             .map(|(_, entry)| entry)
-            .find(|entry| entry.verdict == Verdict::True && on_word(entry.row))
+            .find(|entry| entry.verdict.is_of_a_swap() && on_word(entry.row))
             .map(|entry| entry.position)
     }
 
@@ -132,5 +142,16 @@ mod tests {
         assert_eq!(log.first_swap_after(4, |_| true), Some(8));
         assert_eq!(log.first_swap_after(4, |row| row == 3), Some(9));
         assert_eq!(log.first_swap_after(9, |_| true), None);
+    }
+
+    #[test]
+    fn a_lost_swap_may_have_lost_to_an_advance() {
+        let mut log = Log::default();
+        log.add(entry(6, 0, Verdict::ValueRead(7)));
+        log.add(entry(8, 1, Verdict::ValueBefore(7)));
+        log.add(entry(9, 2, Verdict::True));
+        assert_eq!(log.first_swap_after(3, |_| true), Some(8));
+        assert_eq!(log.first_swap_after(8, |_| true), Some(9));
+        assert_eq!(log.first_swap_after(3, |row| row == 2), Some(9));
     }
 }

@@ -1,7 +1,8 @@
 //! The machine of document 01: it "runs a schedule of steps, crashes and
 //! wakings over shared words that survive a crash". Start is the three steps
-//! of change request 1, refusal 9 has the place of change request 2, and values
-//! have the 32 bits of change request 5.
+//! of change request 1, refusal 9 has the place of change request 2, values
+//! have the 32 bits of change request 5, and a row may be an advance (change
+//! request 6).
 //!
 //! The way of a run: [`run_file`] reads and checks the file (refusals 1 to
 //! 12), [`lending`] checks the buffers (13 to 15) and writes the outcome into
@@ -29,6 +30,8 @@ pub use run_file::RunFile;
 pub use version::{Version, LONGEST_SCHEDULE, MOST_PROCESSES, MOST_ROWS, MOST_WORDS};
 pub use word::Word;
 
+#[cfg(test)]
+mod advance_tests;
 #[cfg(test)]
 mod announcement_tests;
 #[cfg(test)]

@@ -22,7 +22,7 @@ pub enum Stage {
 }
 
 /// A swap on its way from A1 to A4: "the word it read" and the position of
-/// its A1, beside the new value of its row.
+/// its A1, beside the value that it is to put in.
 #[derive(Clone, Copy, Debug, PartialEq, Eq)]
 pub struct Attempt {
     pub seen: Word,
@@ -70,8 +70,18 @@ pub struct Kept {
     pub open_row: Option<usize>,
     pub stored: Option<Verdict>,
     pub checkpoint: bool,
-    pub kept_bit: bool,
+    pub at_a2: KeptAtA2,
     begun: usize,
+}
+
+/// What A2 keeps: the bit, and of an advance "the value read beside the bit, in
+/// one store" (change request 6). At first both are 0.
+#[derive(Clone, Copy, Debug, Default, PartialEq, Eq)]
+pub struct KeptAtA2 {
+    pub bit: bool,
+    /// The value that the last advance to come to A2 has read; nothing else
+    /// changes it.
+    pub value: u32,
 }
 
 #[derive(Debug)]
@@ -169,8 +179,13 @@ impl Process {
 mod tests {
     use super::*;
 
+    const KEPT_AT_A2: KeptAtA2 = KeptAtA2 {
+        bit: true,
+        value: 77,
+    };
+
     /// Idle, one row left, and all that a swap that succeeded leaves: a stored
-    /// true, the checkpoint and the kept bit.
+    /// true, the checkpoint and what A2 kept.
     fn behind_a_swap() -> Process {
         Process {
             rows: vec![4, 6],
@@ -178,7 +193,7 @@ mod tests {
                 open_row: None,
                 stored: Some(Verdict::True),
                 checkpoint: true,
-                kept_bit: true,
+                at_a2: KEPT_AT_A2,
                 begun: 1,
             },
             status: Status::Idle,
@@ -213,7 +228,7 @@ mod tests {
         for after in &AFTER_EACH_STORE[1..] {
             step(&mut process);
             assert_eq!(stores(&process), *after);
-            assert!(process.kept.kept_bit);
+            assert_eq!(process.kept.at_a2, KEPT_AT_A2);
         }
         let (row, stage) = (6, Stage::A1);
         assert_eq!(process.status, Status::AtWork { row, stage });

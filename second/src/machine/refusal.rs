@@ -21,12 +21,14 @@ pub enum Cause {
     FileLength = 8,
     /// "a row's process, kind or word out of range, its zero byte not 0, or
     /// a read whose old or new is not 0"; by change request 2 its place is
-    /// that of the field
+    /// that of the field, and by change request 6 it "covers old not 0" of an
+    /// advance, "and kind 2 in version 1"
     RowField = 9,
     /// "a row's process is below that of the row before"
     RowOrder = 10,
-    /// "a compare row with old equal to new"
-    OldEqualsNew = 11,
+    /// "a compare row with old equal to new"; it "covers amount 0" of an
+    /// advance (change request 6)
+    PutsInTheSame = 11,
     /// "a schedule byte that is no action"
     NoAction = 12,
     /// "words buffer under W"; for a key "also for a list shorter than P"

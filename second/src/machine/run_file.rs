@@ -115,8 +115,9 @@ impl Header {
     /// faulty row" (change request 2); 10 and 11 at the "row's first byte".
     fn read_rows(&self, version: Version, bytes: &[u8]) -> Result<Vec<Row>, Refusal> {
         let row_place = |number| version.row_place(self.words, number);
-        let checked: Vec<Result<Row, Field>> =
-            version.rows(bytes, |row| row.checked(self.processes, self.words));
+        let checked: Vec<Result<Row, Field>> = version.rows(bytes, |row| {
+            row.checked(version, self.processes, self.words)
+        });
         let faulty_field = checked.iter().enumerate().find_map(|(number, row)| {
             let field = row.err()?;
             Some(row_place(number) + version.offset(field))
@@ -130,8 +131,8 @@ impl Header {
             .map(|before| row_place(before + 1));
         refuse_at(below_the_one_before, Cause::RowOrder)?;
 
-        let equal_for_equal = rows.iter().position(Row::swaps_equal_for_equal);
-        refuse_at(equal_for_equal.map(row_place), Cause::OldEqualsNew)?;
+        let the_same = rows.iter().position(Row::puts_in_the_same);
+        refuse_at(the_same.map(row_place), Cause::PutsInTheSame)?;
         Ok(rows)
     }
 

@@ -1,5 +1,6 @@
 //! The two versions of the run file. All in which they differ stands here:
-//! sizes, offsets, the longest file, and how words and rows are read.
+//! sizes, offsets, the longest file, how words and rows are read, and whether
+//! a row may be an advance.
 //!
 //! "Version 1 files still run, widened as they are read" (change request 5):
 //! behind this file there are only values of 32 bits.
@@ -40,6 +41,11 @@ impl Version {
             Version::One => 1,
             Version::Two => 2,
         }
+    }
+
+    /// "New kind 2 in version 2 files" (change request 6).
+    pub fn has_advances(self) -> bool {
+        self == Version::Two
     }
 
     /// The bytes of a value, and of the flip bits beside it.

@@ -58,7 +58,7 @@ fn the_file_is_refused_at_every_other_length() {
 #[test]
 fn refusal_9_for_every_byte_of_a_row() {
     for row in [27, 39, 51] {
-        for (offset, byte) in [(0, 2), (1, 2), (2, 2), (3, 1), (3, 255)] {
+        for (offset, byte) in [(0, 2), (1, 3), (1, 255), (2, 2), (3, 1), (3, 255)] {
             let place = row + offset;
             assert_eq!(refused(&with(&[(place, byte)])), Some((9, place)));
         }
@@ -78,7 +78,7 @@ fn refusal_9_for_every_byte_of_a_row() {
 
 #[test]
 fn the_first_faulty_field_of_the_first_faulty_row_is_told() {
-    let faults = [(39, 2), (40, 2), (41, 2), (42, 1), (46, 1), (50, 1)];
+    let faults = [(39, 2), (40, 3), (41, 2), (42, 1), (46, 1), (50, 1)];
     let places = [39, 40, 41, 42, 43, 47];
     for (first, place) in places.into_iter().enumerate() {
         // An earlier field of a later row does not matter.

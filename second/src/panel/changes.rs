@@ -24,7 +24,7 @@ pub fn write_changes(out: &mut impl Write, before: &State, after: &State) -> io:
     out.write_all(&lines)
 }
 
-/// "The lines of process 0 come first, all six kinds in the table's order,
+/// "The lines of process 0 come first, all seven kinds in the table's order,
 /// then those of process 1, and so on."
 fn write_processes(out: &mut impl Write, before: &State, after: &State) -> io::Result<()> {
     let pairs = before.records.iter().zip(&after.records);
@@ -39,7 +39,7 @@ fn write_processes(out: &mut impl Write, before: &State, after: &State) -> io::R
 }
 
 /// All that the panel tells of a record, in the table's order.
-fn told(record: &Record) -> [(&'static str, String); 6] {
+fn told(record: &Record) -> [(&'static str, String); 7] {
     let bit = |bit: bool| u8::from(bit).to_string();
     [
         ("stage", stage_name(record.status).to_string()),
@@ -47,6 +47,7 @@ fn told(record: &Record) -> [(&'static str, String); 6] {
         ("stored", answer_name(record.stored)),
         ("checkpoint", bit(record.checkpoint)),
         ("kept", bit(record.kept_bit)),
+        ("kept value", record.kept_value.to_string()),
         ("begun", record.begun.to_string()),
     ]
 }
@@ -86,6 +87,7 @@ fn answer_name(stored: Option<Answer>) -> String {
         Some(Answer::False) => "false".to_string(),
         Some(Answer::True) => "true".to_string(),
         Some(Answer::Value(value)) => format!("value {value}"),
+        Some(Answer::Was(value)) => format!("was {value}"),
     }
 }
 

@@ -69,6 +69,8 @@ fn the_lines_of_a_whole_schedule_tell_the_outcome_of_the_run() {
         (Flavour::FewLost(Version::Two), 6),
         (Flavour::ManyLost(Version::One), 6),
         (Flavour::ManyLost(Version::Two), 6),
+        (Flavour::Advances, 6),
+        (Flavour::Mixed, 6),
     ];
     for (flavour, count) in files {
         for record in records(41, count, flavour) {

@@ -352,3 +352,140 @@ fn a_refused_file() {
     assert_eq!(printed(&no_kind, "00\n"), "refused 9 16\n");
     assert_eq!(printed(b"SWR", "00\n"), "refused 1 0\n");
 }
+
+/// One word 1,000 below the end, in a file of version 2: process 0 advances it
+/// by 1,460, process 1 by 536 and then swaps 996 for 7.
+fn advances() -> Vec<u8> {
+    let mut file = b"SWR\x02\x00\x02\x01\x03\x00\x00\x00".to_vec();
+    file.extend([0x18, 0xFC, 0xFF, 0xFF, 0, 0, 0, 0]);
+    file.extend([0, 2, 0, 0, 0, 0, 0, 0, 0xB4, 5, 0, 0]);
+    file.extend([1, 2, 0, 0, 0, 0, 0, 0, 0x18, 2, 0, 0]);
+    file.extend([1, 1, 0, 0, 0xE4, 3, 0, 0, 7, 0, 0, 0]);
+    file
+}
+
+/// Process 0 reads at 3, process 1 advances at 10, process 0 loses at 13, goes
+/// back to A1 and swaps at 17. The kept value has a line of its own directly
+/// behind that of the kept bit, which stays as it was in the second round.
+const LOST_ROUND: &str = "\
+key 8 01 step 1
+process 1 stage A3
+process 1 kept 1
+process 1 kept value 4294966296
+key 9 01 step 1
+process 1 stage A4
+process 1 checkpoint 1
+key 10 01 step 1
+process 1 stage A5
+word 0 4294966832 2
+log 10 1 1 4 4294966296 at 0
+key 11 00 step 0
+process 0 stage A3
+process 0 kept 1
+process 0 kept value 4294966296
+key 12 00 step 0
+process 0 stage A4
+process 0 checkpoint 1
+key 13 00 step 0
+process 0 stage A1
+key 14 00 step 0
+process 0 stage A2
+key 15 00 step 0
+process 0 stage A3
+process 0 kept value 4294966832
+key 16 00 step 0
+process 0 stage A4
+key 17 00 step 0
+process 0 stage A5
+word 0 996 3
+log 17 0 0 4 4294966832 at 1
+key 18 00 step 0
+process 0 stage A6
+process 0 stored was 4294966832
+key 19 00 step 0
+process 0 stage idle
+process 0 row none
+answer 19 0 0 4 4294966832
+";
+
+#[test]
+fn an_advance_that_loses_a_round() {
+    let keys = times(4, "00") + &times(7, "01") + &times(9, "00");
+    assert_eq!(from_key(8, &printed(&advances(), keys)), LOST_ROUND);
+}
+
+/// Process 1 is cut off behind its swap, and its answer comes from what A2 kept.
+const RECOVERED_ADVANCE: &str = "\
+key 7 11 crash 1
+process 1 stage down
+key 8 21 wake 1
+process 1 stage V1
+key 9 01 step 1
+process 1 stage V2
+key 10 01 step 1
+process 1 stage V3
+key 11 01 step 1
+process 1 stage V4
+key 12 01 step 1
+process 1 stage V5
+process 1 stored was 4294966296
+key 13 01 step 1
+process 1 stage idle
+process 1 row none
+answer 13 1 1 4 4294966296
+";
+
+#[test]
+fn an_advance_that_is_recovered() {
+    let keys = times(7, "01") + "11\n21\n" + &times(5, "01");
+    assert_eq!(from_key(7, &printed(&advances(), keys)), RECOVERED_ADVANCE);
+}
+
+/// The row behind an advance: the announcement leaves what is kept, and A2 of a
+/// compare keeps its bit alone.
+#[test]
+fn a_compare_behind_an_advance() {
+    let keys = times(9, "00") + &times(15, "01");
+    let text = printed(&advances(), keys);
+    let expected = "\
+key 18 01 step 1
+process 1 stage N2
+process 1 stored none
+key 19 01 step 1
+process 1 stage N3
+process 1 checkpoint 0
+key 20 01 step 1
+process 1 stage A1
+process 1 row 2
+process 1 begun 2
+key 21 01 step 1
+process 1 stage A2
+key 22 01 step 1
+process 1 stage A3
+process 1 kept 0
+key 23 01 step 1
+process 1 stage A4
+process 1 checkpoint 1
+";
+    assert_eq!(from_key(18, &text), expected);
+}
+
+/// A kept value of 0 is what is kept at first, so nothing is told of it.
+#[test]
+fn a_kept_value_of_0_is_no_other() {
+    let mut file = advances();
+    file[11..15].fill(0);
+    let text = printed(&file, times(5, "00"));
+    let expected = "key 4 00 step 0\nprocess 0 stage A3\nprocess 0 kept 1\n";
+    assert_eq!(from_key(4, &text), expected);
+}
+
+#[test]
+fn refused_files_of_advances() {
+    let mut with_old = advances();
+    with_old[35] = 1;
+    assert_eq!(printed(&with_old, "00\n"), "refused 9 35\n");
+    let mut by_nothing = advances();
+    by_nothing[39..43].fill(0);
+    assert_eq!(printed(&by_nothing, "00\n"), "refused 11 31\n");
+}
