@@ -1,6 +1,6 @@
 """The names of the functions in the proofs, and what plain values own and are."""
 
-SIZE = 56  # bytes of a record, as `rt mir panel` prints them: (mul unsigned) .. (int 64 56); also in proofs/Laying.antt
+SIZE = 64  # bytes of a record, as `rt mir panel` prints them: (mul unsigned) .. (int 64 64); also in proofs/Laying.antt
 
 # the crate in which a function stands, where it is not `panel`
 CRATE = {'lend_records': 'bench_panel', 'records_of': 'bench_panel', 'with_records': 'bench_panel'}

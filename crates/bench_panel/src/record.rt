@@ -6,6 +6,7 @@ use lines::put;
 use lines::put_name;
 use lines::put_number;
 use machine::Answer;
+use machine::Kept;
 use machine::Maybe;
 use machine::Opened;
 use machine::Process;
@@ -47,6 +48,7 @@ fn answer_number(answer: Maybe) -> u64 {
         Answer::False => 1,
         Answer::True => 2,
         Answer::Value(value) => 3 + value as u64,
+        Answer::Was(value) => 3 + 4294967296 + value as u64,
     }
 }
 
@@ -122,15 +124,19 @@ fn put_opened(out: &mut [u8], at: usize, q: usize, before: Opened, after: Opened
     }
 }
 
+// Puts a value that is answered under its name, to the end of the line.
+fn put_said(out: &mut [u8], at: usize, name: &[u8], value: u32) -> usize {
+    let named = put_name(out, at, name);
+    let end = put_number(out, named, value as u64);
+    put(out, end, b'\n')
+}
+
 fn put_answer(out: &mut [u8], at: usize, answer: Answer) -> usize {
     match answer {
         Answer::False => put_name(out, at, b" false\n"),
         Answer::True => put_name(out, at, b" true\n"),
-        Answer::Value(value) => {
-            let named = put_name(out, at, b" value");
-            let end = put_number(out, named, value as u64);
-            put(out, end, b'\n')
-        }
+        Answer::Value(value) => put_said(out, at, b" value", value),
+        Answer::Was(value) => put_said(out, at, b" was", value),
     }
 }
 
@@ -155,16 +161,26 @@ fn put_count(out: &mut [u8], at: usize, q: usize, name: &[u8], before: u64, afte
     put(out, end, b'\n')
 }
 
-// Puts the lines of what a record has as numbers: the two bits, and how many rows are begun.
+// Puts the lines of what A2 keeps: the bit, and the value (R112).
+fn put_kept(out: &mut [u8], at: usize, q: usize, before: Kept, after: Kept) -> usize {
+    let bit = bit_number(before.bit);
+    let bit_now = bit_number(after.bit);
+    let value = before.value as u64;
+    let value_now = after.value as u64;
+    let next = put_count(out, at, q, b"kept", bit, bit_now);
+    put_count(out, next, q, b"kept value", value, value_now)
+}
+
+// Puts the lines of what a record has as numbers: the checkpoint, what is kept, and how many rows are begun.
 fn put_counts(out: &mut [u8], at: usize, q: usize, before: Process, after: Process) -> usize {
     let checkpoint = bit_number(before.checkpoint);
     let checkpoint_now = bit_number(after.checkpoint);
-    let kept = bit_number(before.kept);
-    let kept_now = bit_number(after.kept);
+    let kept = before.kept;
+    let kept_now = after.kept;
     let begun = before.begun as u64;
     let begun_now = after.begun as u64;
     let mut next = put_count(out, at, q, b"checkpoint", checkpoint, checkpoint_now);
-    next = put_count(out, next, q, b"kept", kept, kept_now);
+    next = put_kept(out, next, q, kept, kept_now);
     put_count(out, next, q, b"begun", begun, begun_now)
 }
 

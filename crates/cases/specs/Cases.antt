@@ -1,6 +1,6 @@
--- The twelve bench cases as one table (R260 to R272), in both versions, and one statement, by computation: the definitions that `run`'s contract
--- cites give on each file what the table says (R295).
-use Prim.Native.Nat.{ℕ, _+_, _*_, _^_}
+-- The twelve bench cases (R260 to R272), in both versions, and the bench files of advances (R11) as one table, and one statement, by computation: the
+-- definitions that `run`'s contract cites give on each file what the table says (R295).
+use Prim.Native.Nat.{ℕ, _+_, _*_, _/_, _%_, _^_}
 use mathlib.Core.Path.{_≡_, refl}
 use mathlib.Core.List.{List, [], _∷_, _++_, map}
 use lib.ListN.{length, replicate}
@@ -57,10 +57,14 @@ compares v p old new = p ∷ 1 ∷ 0 ∷ 0 ∷ (bytesOf v old ++ bytesOf v new)
 reads : Form → (p : ℕ) → List ℕ
 reads v p = p ∷ 0 ∷ 0 ∷ 0 ∷ (zeros v ++ zeros v)
 
--- a file of P processes and one word that starts at 7 with no flip bit (R260): the header (R2), the word, the rows and the schedule
+-- a file of P processes and one word that starts at this value with no flip bit: the header (R2), the word, the rows and the schedule
+startsAt : Form → (value : List ℕ) (P : ℕ) → List (List ℕ) → List ℕ → List ℕ
+startsAt v value P rows schedule =
+    0x53 ∷ 0x57 ∷ 0x52 ∷ version v ∷ 0 ∷ P ∷ 1 ∷ length rows ∷ 0 ∷ length schedule ∷ 0 ∷ (value ++ (zeros v ++ (joined rows ++ schedule)))
+
+-- in the twelve it starts at 7 (R260)
 file : Form → (P : ℕ) → List (List ℕ) → List ℕ → List ℕ
-file v P rows schedule =
-    0x53 ∷ 0x57 ∷ 0x52 ∷ version v ∷ 0 ∷ P ∷ 1 ∷ length rows ∷ 0 ∷ length schedule ∷ 0 ∷ (bytesOf v 7 ++ (zeros v ++ (joined rows ++ schedule)))
+file v P rows schedule = startsAt v (bytesOf v 7) P rows schedule
 
 -- a final word: its flip bits from bit 32 up, and its value
 holds : Form → (flips value : ℕ) → ℕ
@@ -71,13 +75,13 @@ rowsAt : Form → ℕ
 rowsAt narrow = 15
 rowsAt wide = 19
 
--- what is lent: one word more than any case has, and one log and one answer row more than the longest schedule, 21 bytes. Whatever a
+-- what is lent: one word more than any case has, and one log and one answer row more than the longest schedule, 30 bytes. Whatever a
 -- run leaves alone is still 99
 pub lentWords : List ℕ
 lentWords = replicate 2 99
 
 pub lentRows : List ℕ
-lentRows = replicate 110 99
+lentRows = replicate 155 99
 
 -- what a run comes to, in numbers: the refusal and its place, or the two row counts (R185); then the three buffers
 pub data Result : Type 0 where
@@ -207,8 +211,90 @@ l v = isRefused (file v 1 (compares v 0 7 7 ∷ []) []) 11 (rowsAt v)
 twelve : List (Form → Case)
 twelve = a ∷ b ∷ c ∷ d ∷ e ∷ f ∷ g ∷ h ∷ i ∷ j ∷ k ∷ l ∷ []
 
+-- Advances stand in files of version 2. The four bytes of a number; a row of process p that advances word 0; a file whose word starts at a mark
+four : ℕ → List ℕ
+four n = n % 256 ∷ n / 256 % 256 ∷ n / 65536 % 256 ∷ n / 16777216 ∷ []
+
+advances : (p amount : ℕ) → List ℕ
+advances p amount = p ∷ 2 ∷ 0 ∷ 0 ∷ (zeros wide ++ four amount)
+
+from : (start P : ℕ) → List (List ℕ) → List ℕ → List ℕ
+from start P rows schedule = startsAt wide (four start) P rows schedule
+
+-- nobody disturbs it: its answer is the mark before (R114)
+alone : Case
+alone = comesTo (from 1907385120 1 (advances 0 1460 ∷ []) (times 9 0x00)) (row 6 0 0 4 1907385120 ∷ []) (row 8 0 0 4 1907385120 ∷ []) (1 * 2 ^ 32 + 1907386580)
+
+-- p0 loses to p1, goes back to A1 (R118) and adds to the mark that p1 has moved
+loses-once : Case
+loses-once =
+    comesTo
+    (from 2862404773 2 (advances 0 1460 ∷ advances 1 536 ∷ []) (joined (times 4 0x00 ∷ times 7 0x01 ∷ times 9 0x00 ∷ times 2 0x01 ∷ [])))
+    (row 10 1 1 4 2862404773 ∷ row 17 0 0 4 2862405309 ∷ [])
+    (row 19 0 0 4 2862405309 ∷ row 21 1 1 4 2862404773 ∷ [])
+    (3 * 2 ^ 32 + 2862406769)
+
+-- p0 is cut off between A4 and A5, and p1 moves the mark on: p0 is told what A2 kept (R124)
+recovered : Case
+recovered =
+    comesTo
+    (from
+    3318051694
+    2
+    (advances 0 1460 ∷ advances 1 2920 ∷ [])
+    (joined (times 7 0x00 ∷ times 1 0x10 ∷ times 9 0x01 ∷ times 1 0x20 ∷ times 5 0x00 ∷ [])))
+    (row 6 0 0 4 3318051694 ∷ row 14 1 1 4 3318053154 ∷ [])
+    (row 16 1 1 4 3318053154 ∷ row 22 0 0 4 3318051694 ∷ [])
+    (3 * 2 ^ 32 + 3318056074)
+
+-- p0 loses, goes back to A1 and is cut off there: the checkpoint is set and the own bit is not turned, so fail
+told-fail : Case
+told-fail =
+    comesTo
+    (from
+    746920385
+    2
+    (advances 0 536 ∷ advances 1 1460 ∷ [])
+    (joined (times 4 0x00 ∷ times 7 0x01 ∷ times 3 0x00 ∷ times 1 0x10 ∷ times 1 0x20 ∷ times 4 0x00 ∷ times 2 0x01 ∷ [])))
+    (row 10 1 1 4 746920385 ∷ [])
+    (row 19 0 0 2 0 ∷ row 21 1 1 4 746920385 ∷ [])
+    (2 * 2 ^ 32 + 746921845)
+
+-- the first of two advances goes past 4,294,967,295 (R117)
+wraps : Case
+wraps =
+    comesTo
+    (from 4294966296 1 (advances 0 1460 ∷ advances 0 1460 ∷ []) (times 18 0x00))
+    (row 6 0 0 4 4294966296 ∷ row 15 0 1 4 460 ∷ [])
+    (row 8 0 0 4 4294966296 ∷ row 17 0 1 4 460 ∷ [])
+    1920
+
+-- the capture at the station: p0 is cut off before its swap, and p1 moves the mark to where p0 would have; p0 is told fail and advances again
+capture : Case
+capture =
+    comesTo
+    (from
+    4019873250
+    2
+    (advances 0 1460 ∷ advances 0 1460 ∷ advances 1 1460 ∷ [])
+    (joined (times 6 0x00 ∷ times 1 0x10 ∷ times 9 0x01 ∷ times 1 0x20 ∷ times 13 0x00 ∷ [])))
+    (row 13 1 2 4 4019873250 ∷ row 27 0 1 4 4019874710 ∷ [])
+    (row 15 1 2 4 4019873250 ∷ row 20 0 0 2 0 ∷ row 29 0 1 4 4019874710 ∷ [])
+    (3 * 2 ^ 32 + 4019876170)
+
+-- an old that is not 0 (R49e), and the amount 0 (R51), in the second row
+old-typed : Case
+old-typed =
+    isRefused (from 1907385120 1 (advances 0 1460 ∷ (0 ∷ 2 ∷ 0 ∷ 0 ∷ (four 1907386580 ++ four 1460)) ∷ []) (times 9 0x00)) 9 35
+
+by-nothing : Case
+by-nothing = isRefused (from 1907385120 1 (advances 0 1460 ∷ advances 0 0 ∷ []) (times 9 0x00)) 11 31
+
+marks : List Case
+marks = alone ∷ loses-once ∷ recovered ∷ told-fail ∷ wraps ∷ capture ∷ old-typed ∷ by-nothing ∷ []
+
 pub table : List Case
-table = map (λ x. x narrow) twelve ++ map (λ x. x wide) twelve
+table = map (λ x. x narrow) twelve ++ (map (λ x. x wide) twelve ++ marks)
 
 -- what the contract of `run` says of a file over what is lent here
 pub ended : List ℕ → Ended
@@ -223,7 +309,7 @@ ended f =
 
 -- the statement: each file of the table ends as the table says (R295)
 pub cases : map (λ x. ended (x .file)) table ≡ map (λ x. x .says) table
-unfolding joined times version mark bytesOf zeros compares reads file holds rowsAt twelve lentWords lentRows resultOf row comesTo isRefused a b c d e f g h i j k l table ended u16At u32At u64At widened marked headSize wordSize rowSize newPlace headerIn numberAt rowAt wordsOf rowsFrom tableOf rowNumbered first count names badField firstBadField sameFields badByte firstRow firstLaterRow firstByte refusalOf bitOf turnOf valueIn flipsIn bitIn swappedIn isSwapped onePast place insert isSwap firstSwap five infront spoken triedIn storingIn decideIn stepTurnIn turnIn apply applied procAt actIn stepIn afterIn begin endOf
+unfolding joined times version mark bytesOf zeros compares reads startsAt file four advances from alone loses-once recovered told-fail wraps capture old-typed by-nothing marks holds rowsAt twelve lentWords lentRows resultOf row comesTo isRefused a b c d e f g h i j k l table ended u16At u32At u64At widened marked headSize wordSize rowSize newPlace headerIn numberAt rowAt wordsOf rowsFrom tableOf rowNumbered first count names badField firstBadField sameFields badByte firstRow firstLaterRow firstByte refusalOf bitOf turnOf valueIn flipsIn bitIn swappedIn isSwapped onePast place insert isSwap firstSwap five infront spoken triedIn storingIn decideIn stepTurnIn turnIn apply applied procAt actIn stepIn afterIn begin endOf
 cases = refl
 
 -- and `run` gives nothing else: whatever meets its contract on a file, over what is lent here, is what `ended` says

@@ -51,7 +51,7 @@ module _ (f : List ℕ) (bytes : Bytes f) (h : Header) (room : Room) (l : Lawful
   unlogged-file i e = unlogged-kept (tableOf h f) fitting (h .processes) (wordsOf h f) (scheduleIn h f) q w (inside i) e
 
 -- start word w, in the list of them
-word-there : (version : ℕ) (f : List ℕ) (n w : ℕ) → w < n → getD (wordsFrom version f n) w 0 ≡ wordIn version f w
+pub word-there : (version : ℕ) (f : List ℕ) (n w : ℕ) → w < n → getD (wordsFrom version f n) w 0 ≡ wordIn version f w
 word-there version f zero w l = absurd (omega arith)
 word-there version f (suc n) w l = go (ltb w n) refl (λ g. word-there version f n w g)
   where

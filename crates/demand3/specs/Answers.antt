@@ -1,4 +1,4 @@
--- What a row answers on plain words is what the machine says for it: by the kinds.
+-- What a row answers on plain words is what the machine says for it, also where it goes by what A2 kept: by the kinds.
 use Prim.Native.Nat.{ℕ}
 use mathlib.Core.Path.{_≡_, refl, sym, _∙_, ap}
 use mathlib.Core.Bool.{Bool, true, false, cond, true≢false}
@@ -7,20 +7,27 @@ use lib.Dec.{eqb}
 use borrow.Author.Tests.{eq-eqb, ne-eqb}
 use Rattle.runfile.specs.declared.Row.{Row}
 use Rattle.runfile.specs.declared.Kind.{Kind}
-use Rattle.runfile.specs.declared.Kind.the-variants.{Read, Compare}
+use Rattle.runfile.specs.declared.Kind.the-variants.{Read, Compare, Advance}
 use Rattle.runfile.specs.Kinds.{kindOf}
 use Rattle.rows.specs.Entries.{Said, isSwapped}
 use Rattle.machine.specs.declared.Answer.the-variants.{False, Value}
+use Rattle.machine.specs.declared.Kept.{Kept}
 use Rattle.machine.specs.declared.Maybe.the-variants.{None, Is}
-use Rattle.machine.specs.Steps.{spoken, swapSays}
+use Rattle.machine.specs.Steps.{spoken, keptBy, swapSays}
 use Rattle.machine.specs.KindLaws.{says-swapped}
 use Rattle.replay.specs.Plain.{answerBy, answerOf}
-use Rattle.replay.specs.Replay.{answer-swapped}
+use Rattle.replay.specs.Replay.{GoesOn, answer-swapped}
 
 module _ (row : Row) (v : ℕ) where
-  pub answer-old : kindOf row ≡ Compare → v ≡ row .old → answerOf row v ≡ spoken (Is (swapSays (kindOf row) v))
+  -- where it swaps, what the swap says
+  pub answer-swap : GoesOn (kindOf row) (row .old) v → answerOf row v ≡ spoken (Is (swapSays (kindOf row) v))
   unfolding answerOf spoken
-  answer-old h e = rw (h, eq-eqb v (row .old) e)
+  answer-swap = go (kindOf row)
+    where
+      go : (kind : Kind) → GoesOn kind (row .old) v → answerBy kind (row .old) v ≡ spoken (Is (swapSays kind v))
+      go Read h = absurd h
+      go Compare h = rw (eq-eqb v (row .old) h)
+      go Advance h = refl
 
   pub answer-other : kindOf row ≡ Compare → (v ≡ row .old → ⊥) → answerOf row v ≡ spoken (Is False)
   unfolding answerOf spoken
@@ -32,7 +39,7 @@ module _ (row : Row) (v : ℕ) where
 
   -- where it tells of a successful swap, it is what the swap says
   pub answer-says : isSwapped (answerOf row v) ≡ true → answerOf row v ≡ spoken (Is (swapSays (kindOf row) v))
-  answer-says h = let w = answer-swapped row v h in answer-old (w .0) (w .1)
+  answer-says h = answer-swap (answer-swapped row v h)
 
   -- an answer false is given at a value that is not old
   pub answer-false : spoken (Is False) ≡ answerOf row v → eqb v (row .old) ≡ false
@@ -46,6 +53,7 @@ module _ (row : Row) (v : ℕ) where
       go : (kind : Kind) → record { verdict = 0; value = 0 } ≡ answerBy kind (row .old) v → eqb v (row .old) ≡ false
       go Read h = absurd (let z : _≡_ {A = ℕ} 0 3 = ap (λ a. a .verdict) h in omega arith)
       go Compare h = met (eqb v (row .old)) h
+      go Advance h = absurd (let z : _≡_ {A = ℕ} 0 4 = ap (λ a. a .verdict) h in omega arith)
 
   -- no row answers fail
   pub answer-never : spoken None ≡ answerOf row v → ⊥
@@ -59,6 +67,13 @@ module _ (row : Row) (v : ℕ) where
       go : (kind : Kind) → record { verdict = 2; value = 0 } ≡ answerBy kind (row .old) v → ⊥
       go Read h = let z : _≡_ {A = ℕ} 2 3 = ap (λ a. a .verdict) h in omega arith
       go Compare h = met (eqb v (row .old)) h
+      go Advance h = let z : _≡_ {A = ℕ} 2 4 = ap (λ a. a .verdict) h in omega arith
+
+-- what the swap is to say of the value read, A2 has kept (R112): of an advance the value, and any other says the same of every value
+pub kept-says : (kind : Kind) (before : Kept) (bit : Bool) (v : ℕ) → swapSays kind (keptBy kind before bit v .value) ≡ swapSays kind v
+kept-says Read before bit v = refl
+kept-says Compare before bit v = refl
+kept-says Advance before bit v = refl
 
 -- no swap says false
 pub says-not-false : (kind : Kind) (v : ℕ) → Is False ≡ Is (swapSays kind v) → ⊥

@@ -19,6 +19,8 @@ use Rattle.demand3.specs.Lost.{beaten}
 use Rattle.demand3.specs.Told as told
 use Rattle.demand3.specs.Positions.{log-time, answer-time, log-first}
 use Rattle.demand3.specs.Reads.{read-time}
+use Rattle.demand3.specs.GoesBack.{overtaken-time}
+use Rattle.demand3.specs.Rounds.{rounds}
 
 module _ (rows : List Row) (words : List ℕ) (P : ℕ) (plan : Plan P (length words) rows) (schedule : List ℕ) where
   abbrev m : Firmware
@@ -61,6 +63,8 @@ module _ (rows : List Row) (words : List ℕ) (P : ℕ) (plan : Plan P (length w
             (beaten rows words P plan (take n schedule) (ownerOf rows k) (plan .present k h) k seen readAt triedAt (subst (StillOpen m rows k) (reached (take n schedule)) o)
             (ap (λ s. procAt (ownerOf rows k) s .status) (sym (reached (take n schedule))) ∙ e) old);
         read-times = read-time rows words P plan schedule;
+        overtaken = overtaken-time rows words P plan schedule;
+        rounds = λ k h. rounds rows words P plan k h schedule;
       }
 
   -- and so of what the machine itself shows at the end

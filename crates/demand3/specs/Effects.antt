@@ -1,7 +1,7 @@
 -- What each effect keeps: the whole, and what others know.
 use Prim.Native.Nat.{ℕ, suc, _+_, _≤_, _<_}
 use mathlib.Core.Path.{_≡_, refl, sym, _∙_, ap, ap₂, subst}
-use mathlib.Core.Bool.{Bool, true, false, true≢false}
+use mathlib.Core.Bool.{Bool, true, false, not, true≢false}
 use mathlib.Core.List.{List, [], _∷_, _++_, map, append-nil}
 use lib.Dec.{eqb}
 use lib.ListN.{length, getD, set, List·getD-map, length-map}
@@ -18,11 +18,11 @@ use native.Mathlib.Omega.{arith}
 use lib.Seq.{getD-set-same, getD-set-other}
 use borrow.Author.Tests.{eq-eqb, ne-eqb, eqb-true, eqb-false}
 use Rattle.word.specs.Laws.{after-swap}
-use Rattle.replay.specs.Lists.{All, all-join, all-map, all-put, keep, keep-join, keep-put-no, keep-put-yes}
+use Rattle.replay.specs.Lists.{All, all-join, all-map, all-put, keep, keep-join, keep-put-no, keep-put-yes, Found, keep-found}
 use Rattle.replay.specs.Logs.{Ordered, sorted-put, Put, put, insert-last}
-use Rattle.replay.specs.Replay.{Good, final, moved-swapped, final-join, right-join, length-final, right-put, final-put, early-put, early-put-later, is-swap}
+use Rattle.replay.specs.Replay.{Good, final, moved-swapped, final-join, right-join, length-final, right-put, final-put, early-put, early-put-later, both-true-0, is-swap}
 use Rattle.demand3.specs.Statement.{of, wordOf}
-use Rattle.demand3.specs.Invariant.{Times, HasSwap, Since, as-read, overtaken, Global, Swapping, Logging, Allowed}
+use Rattle.demand3.specs.Invariant.{Times, Has, HasSwap, isOther, HasOther, Since, as-read, overtaken, Global, Swapping, Logging, Allowed}
 use Rattle.demand3.specs.Frames.{Frame}
 
 -- the entries of other rows
@@ -51,28 +51,41 @@ unfolding of
 of-last-own k l e n h =
     keep-put-yes (λ e. eqb (e .row) k) l [] e (eq-eqb (e .row) k n) ∙ ap (λ l. l ++ e ∷ []) h
 
-module _ (rows : List Row) (start : List ℕ) where
-  non-empty : (w a : ℕ) (x y l : List Entry) (e : Entry) → keep (isSwap rows w a) l ≡ x ++ e ∷ y → HasSwap rows start w a l
-  non-empty w a [] y l e h = record { entry = e; rest = y; is = h }
-  non-empty w a (f ∷ x) y l e h = record { entry = f; rest = x ++ e ∷ y; is = h }
-
-  -- a swap in the log stays there, and a new one is there
-  pub has-new : (w a : ℕ) {l l′ : List Entry} (e : Entry) → Put e l l′ → isSwap rows w a e ≡ true → HasSwap rows start w a l′
-  has-new w a {l} {l′} e p t =
-      non-empty w a (keep (isSwap rows w a) (p .front)) (keep (isSwap rows w a) (p .back)) l′ e
-      (ap (keep (isSwap rows w a)) (p .now) ∙ keep-put-yes (isSwap rows w a) (p .front) (p .back) e t)
-
-  pub has-put : (w a : ℕ) {l l′ : List Entry} (e : Entry) → Put e l l′ → HasSwap rows start w a l → HasSwap rows start w a l′
-  has-put w a {l} {l′} e p h = go (isSwap rows w a e) refl
+-- an entry that passes a test stays in the log, and a new one is there
+module _ (test : Entry → Bool) where
+  pub has-there : {l : List Entry} (front back : List Entry) (e : Entry) → l ≡ front ++ e ∷ back → test e ≡ true → Has test l
+  has-there {l} front back e whole t = first (keep test front) (ap (keep test) whole ∙ keep-put-yes test front back e t)
     where
-      go : (c : Bool) → isSwap rows w a e ≡ c → HasSwap rows start w a l′
-      go true t = has-new w a e p t
+      first : (passing : List Entry) → keep test l ≡ passing ++ e ∷ keep test back → Has test l
+      first [] h = record { entry = e; rest = keep test back; is = h }
+      first (f ∷ passing) h = record { entry = f; rest = passing ++ e ∷ keep test back; is = h }
+
+  pub has-new : {l l′ : List Entry} (e : Entry) → Put e l l′ → test e ≡ true → Has test l′
+  has-new e p t = has-there (p .front) (p .back) e (p .now) t
+
+  pub has-put : {l l′ : List Entry} (e : Entry) → Put e l l′ → Has test l → Has test l′
+  has-put {l} {l′} e p h = go (test e) refl
+    where
+      go : (c : Bool) → test e ≡ c → Has test l′
+      go true t = has-new e p t
       go false t =
           record {
             entry = h .entry;
             rest = h .rest;
-            is = ap (keep (isSwap rows w a)) (p .now) ∙ keep-put-no (isSwap rows w a) (p .front) (p .back) e t ∙ ap (keep (isSwap rows w a)) (sym (p .was)) ∙ h .is;
+            is = ap (keep test) (p .now) ∙ keep-put-no test (p .front) (p .back) e t ∙ ap (keep test) (sym (p .was)) ∙ h .is;
           }
+
+  -- one that passes a narrower test passes this one
+  pub has-wider : (narrow : Entry → Bool) → ((e : Entry) → narrow e ≡ true → test e ≡ true) → (l : List Entry) → Has narrow l → Has test l
+  has-wider narrow wider l h =
+      let d : Found narrow l (h .entry) = keep-found narrow l (h .entry) (h .rest) (h .is) in
+      has-there (d .front) (d .back) (h .entry) (d .whole) (wider (h .entry) (d .passes))
+
+module _ (rows : List Row) (start : List ℕ) where
+  -- a swap of another is a swap
+  pub other-swap : (p w a : ℕ) (l : List Entry) → HasOther rows start p w a l → HasSwap rows start w a l
+  unfolding isOther
+  other-swap p w a l h = has-wider (isSwap rows w a) (isOther rows start p w a) (λ e t. both-true-0 (isSwap rows w a e) (not (eqb (rowNumbered rows (e .row) .process) p)) t) l h
 
   module _ (good : (k : ℕ) → Good (length start) (rowNumbered rows k)) (Late : Times) where
     pub words-length : (t : ℕ) (s : State) → Global rows start Late t s → length (s .words) ≡ length start
@@ -187,9 +200,9 @@ module _ (rows : List Row) (start : List ℕ) where
           late = λ k a o h. h;
         }
 
-    since-log : (w a word x : ℕ) {l l′ : List Entry} (e : Entry) → Put e l l′ → Since rows start w a word x l → Since rows start w a word x l′
-    since-log w a word x e p (as-read h) = as-read h
-    since-log w a word x e p (overtaken h) = overtaken (has-put w a e p h)
+    since-log : (q w a word x : ℕ) {l l′ : List Entry} (e : Entry) → Put e l l′ → Since rows start q w a word x l → Since rows start q w a word x l′
+    since-log q w a word x e p (as-read h) = as-read h
+    since-log q w a word x e p (overtaken h) = overtaken (has-put (isOther rows start q w a) e p h)
 
     frame-log : (q k t : ℕ) (e : Entry) (ps : List Process) (s : State) (r : Process) → Global rows start Late t s → Logging rows start Late k t s e
         → ((i : ℕ) → i < count rows q → e .row ≡ first rows q + i → ⊥) → Frame rows start Late Late q t (suc t) s (apply (logs e) ps s) r
@@ -202,8 +215,8 @@ module _ (rows : List Row) (start : List ℕ) where
           log = λ i h. of-put (first rows q + i) e p (other i h);
           answers = λ i h. refl;
           then = λ a w h. ap (λ l. getD l w 0) (early-put rows start a e p (al .no-swap));
-          has = λ w a h. has-put w a e p h;
-          since = λ w a x h n. since-log w a (getD (s .words) w 0) x e p n;
+          has = λ w a h. has-put (isSwap rows w a) e p h;
+          since = λ w a x h n. since-log q w a (getD (s .words) w 0) x e p n;
           late = λ k a o h. h;
         }
 
@@ -221,26 +234,30 @@ module _ (rows : List Row) (start : List ℕ) where
             ∙ ap (λ v. bit q (getD (s .words) v 0)) (sym (a .word) ∙ sym (eqb-true v w h))
         go false h = ap (bit q) (getD-set-other (s .words) w v x 0 (eqb-false v w h))
 
-    swap-since : (p k t w x v a y : ℕ) (e : Entry) (s : State) → Swapping rows start Late p k t s w x e → a < t → Put e (s .log) (insert e (s .log))
-        → Since rows start v a (getD (s .words) v 0) y (s .log) → Since rows start v a (getD (set (s .words) w x) v 0) y (insert e (s .log))
-    swap-since p k t w x v a y e s al h pt (overtaken n) = overtaken (has-put v a e pt n)
-    swap-since p k t w x v a y e s al h pt (as-read n) = go (eqb v w) refl
+    -- a swap of p, whose row k is, on the word that q has read
+    swap-since : (p q k t w x v a y : ℕ) (e : Entry) (s : State) → Swapping rows start Late p k t s w x e → rowNumbered rows k .process ≡ p → (q ≡ p → ⊥) → a < t → Put e (s .log) (insert e (s .log))
+        → Since rows start q v a (getD (s .words) v 0) y (s .log) → Since rows start q v a (getD (set (s .words) w x) v 0) y (insert e (s .log))
+    unfolding isOther
+    swap-since p q k t w x v a y e s al mine ne h pt (overtaken n) = overtaken (has-put (isOther rows start q v a) e pt n)
+    swap-since p q k t w x v a y e s al mine ne h pt (as-read n) = go (eqb v w) refl
       where
-        go : (c : Bool) → eqb v w ≡ c → Since rows start v a (getD (set (s .words) w x) v 0) y (insert e (s .log))
-        go true q =
+        go : (c : Bool) → eqb v w ≡ c → Since rows start q v a (getD (set (s .words) w x) v 0) y (insert e (s .log))
+        go true c =
             let at : e .position ≡ t = al .at in
-            overtaken (has-new v a e pt (is-swap rows v a e (record {
+            let is : isSwap rows v a e ≡ true = is-swap rows v a e (record {
               swap-said = al .truly;
               later = omega arith;
               there = al .there;
-              on = ap (λ k. rowNumbered rows k .word) (al .row) ∙ sym (al .word) ∙ sym (eqb-true v w q);
-            })))
-        go false q = as-read (getD-set-other (s .words) w v x 0 (eqb-false v w q) ∙ n)
+              on = ap (λ k. rowNumbered rows k .word) (al .row) ∙ sym (al .word) ∙ sym (eqb-true v w c);
+            }) in
+            let other : eqb (rowNumbered rows (e .row) .process) q ≡ false = ne-eqb (rowNumbered rows (e .row) .process) q (λ m. ne (sym m ∙ ap (λ k. rowNumbered rows k .process) (al .row) ∙ mine)) in
+            overtaken (has-new (isOther rows start q v a) e pt (rw (is, other)))
+        go false c = as-read (getD-set-other (s .words) w v x 0 (eqb-false v w c) ∙ n)
 
-    frame-swap : (p q k t w x : ℕ) (e : Entry) (ps : List Process) (s : State) (r : Process) → Global rows start Late t s → Swapping rows start Late p k t s w x e → (q ≡ p → ⊥)
+    frame-swap : (p q k t w x : ℕ) (e : Entry) (ps : List Process) (s : State) (r : Process) → Global rows start Late t s → Swapping rows start Late p k t s w x e → rowNumbered rows k .process ≡ p → (q ≡ p → ⊥)
         → ((i : ℕ) → i < count rows q → e .row ≡ first rows q + i → ⊥) → Frame rows start Late Late q t (suc t) s (apply (swaps w x e) ps s) r
     unfolding apply
-    frame-swap p q k t w x e ps s r g al ne other =
+    frame-swap p q k t w x e ps s r g al mine ne other =
         let pt : Put e (s .log) (insert e (s .log)) = put e (s .log) (g .sorted) in
         let at : e .position ≡ t = al .at in
         record {
@@ -249,14 +266,14 @@ module _ (rows : List Row) (start : List ℕ) where
           log = λ i h. of-put (first rows q + i) e pt (other i h);
           answers = λ i h. refl;
           then = λ a w h. ap (λ l. getD (final rows start l) w 0) (early-put-later rows a e pt (omega arith));
-          has = λ w a h. has-put w a e pt h;
-          since = λ v a y h n. swap-since p k t w x v a y e s al h pt n;
+          has = λ w a h. has-put (isSwap rows w a) e pt h;
+          since = λ v a y h n. swap-since p q k t w x v a y e s al mine ne h pt n;
           late = λ k a o h. h;
         }
 
-    pub frame-effect : (p q k t : ℕ) (f : Effect) (ps : List Process) (s : State) (r : Process) → Global rows start Late t s → Allowed rows start Late p k t s f → (q ≡ p → ⊥)
+    pub frame-effect : (p q k t : ℕ) (f : Effect) (ps : List Process) (s : State) (r : Process) → Global rows start Late t s → Allowed rows start Late p k t s f → rowNumbered rows k .process ≡ p → (q ≡ p → ⊥)
         → ((i : ℕ) → i < count rows q → k ≡ first rows q + i → ⊥) → Frame rows start Late Late q t (suc t) s (apply f ps s) r
-    frame-effect p q k t quiet ps s r g a ne other = frame-quiet q t ps s r
-    frame-effect p q k t (swaps w x e) ps s r g a ne other = frame-swap p q k t w x e ps s r g a ne (λ i h n. other i h (sym (a .row) ∙ n))
-    frame-effect p q k t (logs e) ps s r g a ne other = frame-log q k t e ps s r g a (λ i h n. other i h (sym (a .row) ∙ n))
-    frame-effect p q k t (replies e) ps s r g a ne other = frame-reply q t e ps s r (λ i h n. other i h (sym (a .0) ∙ n))
+    frame-effect p q k t quiet ps s r g a mine ne other = frame-quiet q t ps s r
+    frame-effect p q k t (swaps w x e) ps s r g a mine ne other = frame-swap p q k t w x e ps s r g a mine ne (λ i h n. other i h (sym (a .row) ∙ n))
+    frame-effect p q k t (logs e) ps s r g a mine ne other = frame-log q k t e ps s r g a (λ i h n. other i h (sym (a .row) ∙ n))
+    frame-effect p q k t (replies e) ps s r g a mine ne other = frame-reply q t e ps s r (λ i h n. other i h (sym (a .0) ∙ n))

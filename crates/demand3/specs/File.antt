@@ -1,32 +1,30 @@
 -- Demand 3 (R242 to R254) of every run file that is not refused, and of what `run` leaves in the three buffers: the refusals give what the theorem asks of
 -- the rows, and the rows in the buffers are those of the log and of the answers.
 -- Assumes of the file that its numbers are bytes, which is what `run` is lent (`&[u8]`).
-use Prim.Native.Nat.{ℕ, suc, _^_, _≤_, _<_}
+use Prim.Native.Nat.{ℕ, suc, _≤_, _<_}
 use mathlib.Core.Path.{_≡_, refl, sym, _∙_, ap, subst}
 use mathlib.Core.List.{List, _++_, map}
 use native.Mathlib.Omega.{arith}
 use lib.ListN.{length, take, drop}
 use lib.Seq.{take-append-seam}
 use Rattle.runfile.specs.declared.Header.{Header}
-use Rattle.runfile.specs.declared.Row.{Row}
 use Rattle.runfile.specs.declared.Room.{Room}
 use Rattle.runfile.specs.declared.Checked.{Checked}
 use Rattle.runfile.specs.declared.Checked.the-variants as checked
 use Rattle.runfile.specs.Layout.{byteAt, headerIn, rowsStart, strideOf, rowPlace, scheduleIn}
 use Rattle.runfile.specs.RowLaws.{new-fits}
 use Rattle.runfile.specs.Operations.{wordsOf, tableOf, rowNumbered}
-use Rattle.runfile.specs.Kinds.{kindOf, new-put}
 use Rattle.runfile.specs.OperationLaws.{length-wordsFrom, length-rowsFrom, rowNumbered-rowsFrom}
 use Rattle.runfile.specs.Refusals.{refusalOf}
-use Rattle.runfile.specs.Table.{Same, SameFields, rowOf}
+use Rattle.runfile.specs.Table.{rowOf}
 use Rattle.runfile.specs.Lawful.{Lawful, lawful}
-use Rattle.word.specs.Word.{width, value}
+use Rattle.word.specs.Word.{value}
 use Rattle.rows.specs.declared.Entry.{Entry}
 use Rattle.rows.specs.Buffers.{rowsOf, infront}
 use Rattle.rows.specs.BufferLaws.{rows-back}
 use Rattle.run.specs.declared.Outcome.the-variants as outcome
 use Rattle.run.specs.Run.{endOf, roomOf, EndsAs, Ends}
-use Rattle.replay.specs.Replay.{Good, answer-swapped}
+use Rattle.replay.specs.Replay.{Good, good-row}
 use Rattle.demand3.specs.FlipBit.{OfFlipBit}
 use Rattle.demand3.specs.Plans.{Plan}
 use Rattle.demand3.specs.Demand.{demand3, words-stay}
@@ -39,17 +37,6 @@ abbrev pub OfFile : Header → List ℕ → List Entry → List Entry → List �
 OfFile h f = OfFlipBit (tableOf h f) (h .processes) (wordsOf h f) (scheduleIn h f)
 
 module _ (f : List ℕ) (bytes : Bytes f) where
-  -- a row that is lawful is good: where it swaps, it compares, and has an old and a new that differ
-  good-row : (W : ℕ) (row : Row) → row .word < W → row .new < 2 ^ width → (SameFields row → ⊥) → Good W row
-  good-row W row inside fits differ =
-      record {
-        inside = inside;
-        fits = λ v. rw (new-put (kindOf row) (row .new) v) fits;
-        differ = λ v swaps same.
-            let w = answer-swapped row v swaps in
-            differ (subst (λ kind. Same kind (row .old) (row .new)) (sym (w .0)) (sym (w .1) ∙ sym same ∙ new-put (kindOf row) (row .new) v));
-      }
-
   module _ (h : Header) (room : Room) (l : Lawful h f room) where
     many : length (tableOf h f) ≡ h .rows
     unfolding tableOf

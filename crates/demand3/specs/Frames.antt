@@ -1,12 +1,13 @@
 -- What a change by others leaves to a process.
 use Prim.Native.Nat.{ℕ, suc, _+_, _≤_, _<_}
 use mathlib.Core.Path.{_≡_, sym, _∙_, ap, subst}
-use mathlib.Core.Bool.{Bool}
+use mathlib.Core.Bool.{Bool, _&&_}
 use mathlib.Core.List.{List}
 use lib.ListN.{getD}
 use Rattle.rows.specs.declared.Entry.{Entry}
 use Rattle.runfile.specs.declared.Row.{Row}
 use Rattle.machine.specs.declared.Process.{Process}
+use Rattle.machine.specs.declared.Kept.{Kept}
 use Rattle.machine.specs.declared.Stage.{Stage}
 use Rattle.machine.specs.declared.Stage.the-variants.{A1, A2, A3, A4, A5, A6, V1, V2, V3, V4, V5, V6}
 use Rattle.machine.specs.declared.Maybe.{Maybe}
@@ -22,7 +23,7 @@ use Rattle.replay.specs.Logs.{early}
 use Rattle.replay.specs.Replay.{final}
 use native.Mathlib.Omega.{arith}
 use Rattle.demand3.specs.Statement.{of, Once, Logged}
-use Rattle.demand3.specs.Invariant.{Settled, due, Times, matches, says, HasSwap, Seen, Since, Reading, Pending, won, held, lost, AtStage, working, StatusOk, IsOpen, Local}
+use Rattle.demand3.specs.Invariant.{Settled, due, Times, says, hasSwapped, owed, HasSwap, Seen, Since, Reading, Pending, won, held, lost, AtStage, working, StatusOk, IsOpen, Local}
 
 pub once-alone : {p k : ℕ} {m : Maybe} {l l′ : List Entry} → of k l′ ≡ of k l → Once p k m l → Once p k m l′
 once-alone e o = record { entry = o .entry; once = e ∙ o .once; process = o .process; says-so = o .says-so }
@@ -43,7 +44,7 @@ module _ (rows : List Row) (start : List ℕ) where
     pub answers : (i : ℕ) → i < count rows p → of (first rows p + i) (s′ .answers) ≡ of (first rows p + i) (s .answers)
     pub then : (a w : ℕ) → a < t → getD (final rows start (early a (s′ .log))) w 0 ≡ getD (final rows start (early a (s .log))) w 0
     pub has : (w a : ℕ) → HasSwap rows start w a (s .log) → HasSwap rows start w a (s′ .log)
-    pub since : (w a x : ℕ) → a < t → Since rows start w a (getD (s .words) w 0) x (s .log) → Since rows start w a (getD (s′ .words) w 0) x (s′ .log)
+    pub since : (w a x : ℕ) → a < t → Since rows start p w a (getD (s .words) w 0) x (s .log) → Since rows start p w a (getD (s′ .words) w 0) x (s′ .log)
     pub late : (k a : ℕ) → r .opened ≡ Open k → Late k a → Late′ k a
 
   module _ (Late Late′ : Times) (p t t′ : ℕ) (s s′ : State) (r : Process) (f : Frame Late Late′ p t t′ s s′ r) where
@@ -56,34 +57,33 @@ module _ (rows : List Row) (start : List ℕ) where
     reading-frame : (k a x : ℕ) → r .opened ≡ Open k → Reading rows start Late p k t a x (s .words) (s .log) → Reading rows start Late′ p k t′ a x (s′ .words) (s′ .log)
     reading-frame k a x o h =
         record {
-          compares = h .compares;
-          old = h .old;
+          goes-on = h .goes-on;
           seen = seen-frame k a x o (h .seen);
           since = f .since (rowNumbered rows k .word) a x (h .seen .past) (h .since);
           own = h .own ∙ sym (f .bits (rowNumbered rows k .word));
         }
 
-    matches-frame : (k : ℕ) (b : Bool) → matches rows start p k (s′ .words) b ≡ matches rows start p k (s .words) b
-    matches-frame k b = ap (λ c. sameBit c b) (f .bits (rowNumbered rows k .word))
+    has-frame : (k : ℕ) → hasSwapped rows start p k (s′ .words) r ≡ hasSwapped rows start p k (s .words) r
+    has-frame k = ap (λ c. r .checkpoint && sameBit c (r .kept .bit)) (f .bits (rowNumbered rows k .word))
 
-    pending-frame : (k a x : ℕ) (c b : Bool) (ans : Maybe) → r .opened ≡ Open k → Pending rows start Late p k t a x (s .words) (s .log) c b ans → Pending rows start Late′ p k t′ a x (s′ .words) (s′ .log) c b ans
-    pending-frame k a x c b ans o (won e g m) = won e g (matches-frame k b ∙ m)
-    pending-frame k a x c b ans o (held h e n g) = held (seen-frame k a x o h) e n g
-    pending-frame k a x c b ans o (lost h e g v w m) = lost (seen-frame k a x o h) e g v (f .has (rowNumbered rows k .word) a w) (matches-frame k b ∙ m)
+    pending-frame : (k a x : ℕ) (has has′ : Bool) (kept : Kept) (ans : Maybe) → r .opened ≡ Open k → has′ ≡ has → Pending rows start Late p k t a x (s .log) has kept ans → Pending rows start Late′ p k t′ a x (s′ .log) has′ kept ans
+    pending-frame k a x has has′ kept ans o q (won e g) = won e (q ∙ g)
+    pending-frame k a x has has′ kept ans o q (held h e n g) = held (seen-frame k a x o h) e n (q ∙ g)
+    pending-frame k a x has has′ kept ans o q (lost h e c v w g) = lost (seen-frame k a x o h) e c v (f .has (rowNumbered rows k .word) a w) (q ∙ g)
 
     stage-frame : (k : ℕ) → r .opened ≡ Open k → (stage : Stage) (x a : ℕ) (ans : Maybe) → AtStage rows start Late p k t (s .words) (s .log) r stage x a ans → AtStage rows start Late′ p k t′ (s′ .words) (s′ .log) r stage x a ans
-    stage-frame k o A1 x a ans h = h
-    stage-frame k o A2 x a ans h = (h .0, h .1, reading-frame k a x o (h .2))
-    stage-frame k o A3 x a ans h = (h .0, h .1, reading-frame k a x o (h .2), h .3)
+    stage-frame k o A1 x a ans h = (h .0, has-frame k ∙ h .1)
+    stage-frame k o A2 x a ans h = (h .0, has-frame k ∙ h .1, reading-frame k a x o (h .2))
+    stage-frame k o A3 x a ans h = (h .0, reading-frame k a x o (h .1), h .2)
     stage-frame k o A4 x a ans h = (h .0, h .1, reading-frame k a x o (h .2), h .3)
-    stage-frame k o A5 x a ans h = (h .0, pending-frame k a x (r .checkpoint) (r .kept) ans o (h .1))
+    stage-frame k o A5 x a ans h = (h .0, pending-frame k a x (hasSwapped rows start p k (s .words) r) (hasSwapped rows start p k (s′ .words) r) (r .kept) ans o (has-frame k) (h .1))
     stage-frame k o A6 x a ans h = h
     stage-frame k o V1 x a ans h = h
     stage-frame k o V2 x a ans h = h
     stage-frame k o V3 x a ans h = h
-    stage-frame k o V4 x a ans h = (h .0, h .1, matches-frame k (r .kept) ∙ h .2)
+    stage-frame k o V4 x a ans h = (h .0, has-frame k ∙ h .1)
     stage-frame k o V5 x a ans h = h
-    stage-frame k o V6 x a ans h = (h .0, ap (due (says rows start k) None (r .checkpoint)) (matches-frame k (r .kept)) ∙ h .1)
+    stage-frame k o V6 x a ans h = (h .0, has-frame k ∙ h .1)
 
     status-frame : (st : Status) → StatusOk rows start Late p t (s .words) (s .log) r st → StatusOk rows start Late′ p t′ (s′ .words) (s′ .log) r st
     status-frame Down h = h
@@ -102,8 +102,8 @@ module _ (rows : List Row) (start : List ℕ) where
           row = o .row;
           unanswered = subst (λ k. of k (s′ .answers) ≡ of k (s .answers)) (sym (o .row)) (f .answers (o .index) i) ∙ o .unanswered;
           stands =
-              subst (λ m. Logged p k (due (says rows start k) (r .stored) (r .checkpoint) m) (s′ .log)) (sym (matches-frame k (r .kept)))
-              (logged-alone p k (s .log) (s′ .log) (due (says rows start k) (r .stored) (r .checkpoint) (matches rows start p k (s .words) (r .kept)))
+              subst (λ has. Logged p k (due (says rows start k (r .kept)) (r .stored) has) (s′ .log)) (sym (has-frame k))
+              (logged-alone p k (s .log) (s′ .log) (owed rows start p k (s .words) r)
               (subst (λ k. of k (s′ .log) ≡ of k (s .log)) (sym (o .row)) (f .log (o .index) i)) (o .stands));
         }
 

@@ -15,9 +15,13 @@ pub mod Lost
 pub mod Told
 pub mod Positions
 pub mod Reads
+pub mod GoesBack
+pub mod Rounds
 pub mod Demand
 pub mod File
 pub mod Absent
+pub mod Sum
+pub mod Marks
 pub mod Wrong
 pub mod Capture
 pub mod Announce

@@ -14,6 +14,7 @@ use Rattle.word.specs.Word.{value}
 use Rattle.rows.specs.declared.Entry.{Entry}
 use Rattle.rows.specs.Log.{isSwap}
 use Rattle.machine.specs.declared.Process.{Process}
+use Rattle.machine.specs.declared.Kept.{Kept}
 use Rattle.machine.specs.declared.Answer.{Answer}
 use Rattle.machine.specs.declared.Answer.the-variants.{False}
 use Rattle.machine.specs.declared.Maybe.{Maybe}
@@ -26,7 +27,7 @@ use Rattle.machine.specs.Machine.{State, procAt, after, begin}
 use Rattle.replay.specs.Lists.{keep-found}
 use Rattle.replay.specs.Replay.{first-swap}
 use Rattle.demand3.specs.FlipBit.{Beaten}
-use Rattle.demand3.specs.Invariant.{Times, HasSwap, Pending, won, held, lost, BusyOk, working, StatusOk}
+use Rattle.demand3.specs.Invariant.{Times, hasSwapped, HasSwap, Pending, won, held, lost, BusyOk, working, StatusOk}
 use Rattle.demand3.specs.Plans.{Plan}
 use Rattle.demand3.specs.Answers.{answer-false, answer-never, says-not-false}
 use Rattle.demand3.specs.Own.{open-same}
@@ -35,7 +36,7 @@ use Rattle.demand3.specs.Order.{Always, start, inv}
 none-is : {a : Answer} → None ≡ Is a → ⊥
 none-is e = let z : _≡_ {A = ℕ} 0 1 = cc in omega arith
 
-module _ (rows : List Row) (start : List ℕ) (Late : Times) (p k t a x : ℕ) (words : List ℕ) (log : List Entry) (c b : Bool) where
+module _ (rows : List Row) (start : List ℕ) (Late : Times) (p k t a x : ℕ) (log : List Entry) (has : Bool) (kept : Kept) where
   pub beaten-of : HasSwap rows start (rowNumbered rows k .word) a log → Beaten rows (rowNumbered rows k .word) a log
   beaten-of h =
       record {
@@ -44,15 +45,15 @@ module _ (rows : List Row) (start : List ℕ) (Late : Times) (p k t a x : ℕ) (
         position = λ otherwise. first-swap rows (rowNumbered rows k .word) a otherwise log (h .entry) (h .rest) (h .is);
       }
 
-  pub lost-found : Pending rows start Late p k t a x words log c b (Is False) → value x ≡ rowNumbered rows k .old → Beaten rows (rowNumbered rows k .word) a log
-  lost-found (won e h m) old = absurd (says-not-false (kindOf (rowNumbered rows k)) (rowNumbered rows k .old) e)
+  pub lost-found : Pending rows start Late p k t a x log has kept (Is False) → value x ≡ rowNumbered rows k .old → Beaten rows (rowNumbered rows k .word) a log
+  lost-found (won e h) old = absurd (says-not-false (kindOf (rowNumbered rows k)) (kept .value) e)
   lost-found (held seen s n h) old = absurd (true≢false (sym (sym (answer-false (rowNumbered rows k) (value x) s) ∙ eq-eqb (value x) (rowNumbered rows k .old) old)))
-  lost-found (lost seen e r o h m) old = beaten-of h
+  lost-found (lost seen e r o h n) old = beaten-of h
 
-  pub pending-some : Pending rows start Late p k t a x words log c b None → ⊥
-  pending-some (won e h m) = none-is e
+  pub pending-some : Pending rows start Late p k t a x log has kept None → ⊥
+  pending-some (won e h) = none-is e
   pending-some (held seen s n h) = answer-never (rowNumbered rows k) (value x) s
-  pending-some (lost seen e r o h m) = none-is e
+  pending-some (lost seen e r o h n) = none-is e
 
 module _ (rows : List Row) (words : List ℕ) (P : ℕ) (plan : Plan P (length words) rows) (bytes : List ℕ) (p : ℕ) (here : p < P) where
   abbrev s : State
@@ -71,15 +72,15 @@ module _ (rows : List Row) (words : List ℕ) (P : ℕ) (plan : Plan P (length w
       go : BusyOk rows (map value words) Always p (0 + length bytes) (s .words) (s .log) r A5 x a (Is False) → Beaten rows (rowNumbered rows k .word) a (s .log)
       go (working j q h) =
           let same : j ≡ k = open-same rows (map value words) Always q o in
-          lost-found rows (map value words) Always p k (0 + length bytes) a x (s .words) (s .log) (r .checkpoint) (r .kept)
-          (subst (λ j. Pending rows (map value words) Always p j (0 + length bytes) a x (s .words) (s .log) (r .checkpoint) (r .kept) (Is False)) same (h .1)) old
+          lost-found rows (map value words) Always p k (0 + length bytes) a x (s .log) (hasSwapped rows (map value words) p k (s .words) r) (r .kept)
+          (subst (λ j. Pending rows (map value words) Always p j (0 + length bytes) a x (s .log) (hasSwapped rows (map value words) p j (s .words) r) (r .kept) (Is False)) same (h .1)) old
 
   -- where an answer is stored or returned, at A5, A6 and V5, there is one (R127)
   pub stores-some : (x a ta : ℕ) → r .status ≡ Busy A5 x a ta None → ⊥
   stores-some x a ta e = go (at-stage A5 x a ta None e)
     where
       go : BusyOk rows (map value words) Always p (0 + length bytes) (s .words) (s .log) r A5 x a None → ⊥
-      go (working k o h) = pending-some rows (map value words) Always p k (0 + length bytes) a x (s .words) (s .log) (r .checkpoint) (r .kept) (h .1)
+      go (working k o h) = pending-some rows (map value words) Always p k (0 + length bytes) a x (s .log) (hasSwapped rows (map value words) p k (s .words) r) (r .kept) (h .1)
 
   pub returns-some : (x a ta : ℕ) → r .status ≡ Busy A6 x a ta None → ⊥
   returns-some x a ta e = go (at-stage A6 x a ta None e)

@@ -1,19 +1,19 @@
 -- What a step keeps for the process that makes it, stage by stage.
 use Prim.Native.Nat.{ℕ, suc, _+_, _≤_, _<_}
 use mathlib.Core.Path.{_≡_, refl, sym, _∙_, ap, ap₂, subst}
-use mathlib.Core.Bool.{Bool, true, false, not, cond, true≢false}
+use mathlib.Core.Bool.{Bool, true, false, not, cond, _&&_, true≢false}
 use mathlib.Core.List.{List, [], _∷_, _++_}
 use lib.Dec.{eqb, ltb}
 use lib.ListN.{length, getD, set}
 use Rattle.rows.specs.declared.Entry.{Entry}
 use Rattle.machine.specs.Machine.{quiet, swaps, logs, replies, Move, State, alone, apply, moveOf}
-use Rattle.machine.specs.Turn.{Turn, Quiet, Swaps}
+use Rattle.machine.specs.Turn.{Quiet, Swaps}
 use Rattle.runfile.specs.declared.Row.{Row}
 use Rattle.machine.specs.declared.Process.{Process}
 use Rattle.machine.specs.declared.Stage.{Stage}
 use Rattle.machine.specs.declared.Stage.the-variants.{A1, A2, A3, A4, A5, A6, V1, V2, V3, V4, V5, V6}
 use Rattle.machine.specs.declared.Answer.{Answer}
-use Rattle.machine.specs.declared.Answer.the-variants.{False, True, Value}
+use Rattle.machine.specs.declared.Answer.the-variants.{False, True, Value, Was}
 use Rattle.machine.specs.declared.Maybe.{Maybe}
 use Rattle.machine.specs.declared.Maybe.the-variants.{None, Is}
 use Rattle.machine.specs.declared.Opened.{Opened}
@@ -23,28 +23,28 @@ use Rattle.machine.specs.declared.Status.the-variants.{Busy}
 use Rattle.word.specs.Word.{value, bit, swapped, width}
 use Rattle.runfile.specs.Operations.{rowNumbered, first, count}
 use Rattle.runfile.specs.declared.Kind.{Kind}
-use Rattle.runfile.specs.declared.Kind.the-variants.{Read, Compare}
+use Rattle.runfile.specs.declared.Kind.the-variants.{Read, Compare, Advance}
 use Rattle.runfile.specs.Kinds.{kindOf, newOf}
 use Rattle.rows.specs.Entries.{said, isSwapped}
-use Rattle.rows.specs.Log.{firstSwap, isSwap}
+use Rattle.rows.specs.Log.{insert, firstSwap, isSwap}
 use native.Mathlib.Omega.{arith}
 use mathlib.Core.Logic.{_≢_}
 use lib.Seq.{getD-set-same}
 use borrow.Author.Tests.{eq-eqb, eqb-true, eqb-false, ltb-true}
-use Rattle.machine.specs.Steps.{entry, readBy, swapSays, lostBy, triedIn, storing, storingIn, recovered, sameBit, decide, decideIn, spoken}
-use Rattle.machine.specs.KindLaws.{loss-false, says-swapped, says-stored}
+use Rattle.machine.specs.Steps.{entry, readBy, keptBy, swapSays, lostBy, triedIn, storing, storingIn, recovered, sameBit, decide, decideIn, spoken}
+use Rattle.machine.specs.KindLaws.{bit-kept, says-swapped, says-stored}
 use Rattle.machine.specs.Records.{with-status, with-kept, with-checkpoint, with-stored, closed, started}
 use Rattle.word.specs.Laws.{after-swap}
 use Rattle.replay.specs.Lists.{All, all-map, all-right, Found, keep-found}
 use Rattle.replay.specs.Logs.{early, early-all, put}
 use Rattle.replay.specs.Plain.{answerOf}
-use Rattle.replay.specs.Replay.{Good, final, RightAt, swap-on, first-swap}
+use Rattle.replay.specs.Replay.{Good, GoesOn, final, RightAt, swap-on, first-swap}
 use Rattle.replay.specs.Replay as replay
 use Rattle.demand3.specs.Statement.{of, Logged, wordOf}
-use Rattle.demand3.specs.Invariant.{Settled, due, Times, matches, says, HasSwap, Seen, Since, as-read, overtaken, Reading, Pending, won, held, lost, AtStage, working, StatusOk, IsOpen, Local, Global, Swapping, Allowed}
+use Rattle.demand3.specs.Invariant.{Settled, due, Times, says, hasSwapped, owed, HasSwap, HasOther, Seen, Since, as-read, overtaken, Reading, Keeps, Pending, won, held, lost, AtStage, working, StatusOk, IsOpen, Local, Global, Swapping, Allowed}
 use Rattle.demand3.specs.Frames.{ended-alone}
-use Rattle.demand3.specs.Answers.{answer-old, answer-other, answer-read, answer-false, answer-never}
-use Rattle.demand3.specs.Effects.{words-length, plain, of-put, of-last, of-put-own, of-last-own}
+use Rattle.demand3.specs.Answers.{answer-swap, kept-says, answer-other, answer-read, answer-false, answer-never}
+use Rattle.demand3.specs.Effects.{words-length, plain, other-swap, of-put, of-last, of-put-own, of-last-own}
 
 module _ (rows : List Row) (start : List ℕ) (Late : Times) where
   -- a step of process p that comes to u is all right: what it does to the rest is allowed, and what holds of p goes on to hold
@@ -77,7 +77,7 @@ module _ (rows : List Row) (start : List ℕ) (Late : Times) where
     -- the record changes and the row stays open
     own-step : (k : ℕ) → r .opened ≡ Open k → (s′ : State) (r′ : Process) → r′ .opened ≡ r .opened → r′ .begun ≡ r .begun
         → ((j : ℕ) → (j ≡ k → ⊥) → of j (s′ .log) ≡ of j (s .log)) → s′ .answers ≡ s .answers
-        → Logged p k (due (says rows start k) (r′ .stored) (r′ .checkpoint) (matches rows start p k (s′ .words) (r′ .kept))) (s′ .log)
+        → Logged p k (owed rows start p k (s′ .words) r′) (s′ .log)
         → StatusOk rows start Late p (suc t) (s′ .words) (s′ .log) r′ (r′ .status)
         → Local rows start Late p (suc t) s′ r′
     own-step k o s′ r′ eo eb others ea stands work =
@@ -101,7 +101,7 @@ module _ (rows : List Row) (start : List ℕ) (Late : Times) where
 
     -- the row is closed with the answer row e
     own-close : (k : ℕ) → r .opened ≡ Open k → (e : Entry) (m : Maybe) (ps : List Process) → e .row ≡ k → e .process ≡ p → said e ≡ spoken m
-        → due (says rows start k) (r .stored) (r .checkpoint) (matches rows start p k (s .words) (r .kept)) ≡ m
+        → owed rows start p k (s .words) r ≡ m
         → Local rows start Late p (suc t) (apply (replies e) ps s) (closed r)
     unfolding apply
     own-close k o e m ps er ep es ed =
@@ -158,7 +158,7 @@ module _ (rows : List Row) (start : List ℕ) (Late : Times) where
                 unanswered = l .future-answers (r .begun) (omega arith) h;
                 stands = rw (st, ch) (l .future-log (r .begun) (omega arith) h);
               });
-          work = working (first rows p + r .begun) refl (st, ch);
+          work = working (first rows p + r .begun) refl (st, ap (λ c. c && sameBit (bit p (wordOf rows (first rows p + r .begun) (s .words))) (r .kept .bit)) ch);
         }
 
     -- only the status changes
@@ -205,10 +205,9 @@ same-self : (b : Bool) → sameBit b b ≡ true
 same-self true = refl
 same-self false = refl
 
-due-lost : (says : Answer) (c : Bool) → due says None c false ≡ None
-unfolding due
-due-lost says true = refl
-due-lost says false = refl
+and-false : (b : Bool) → (b && false) ≡ false
+and-false true = refl
+and-false false = refl
 
 module _ (rows : List Row) (start : List ℕ) (good : (k : ℕ) → Good (length start) (rowNumbered rows k)) (Late : Times) (mono : (k a b : ℕ) → a ≤ b → Late k a → Late k b) where
   module _ (p t : ℕ) (s : State) (r : Process) (g : Global rows start Late t s) (l : Local rows start Late p t s r) (k : ℕ) (o : r .opened ≡ Open k) (now : Late k t) where
@@ -226,17 +225,26 @@ module _ (rows : List Row) (start : List ℕ) (good : (k : ℕ) → Good (length
     make-busy u a f =
         busy (l .opened k o .index) (index-fits rows start Late p t s r l k o) (o ∙ ap Open (l .opened k o .row)) (subst (λ k. Allowed rows start Late p k t s (u .effect)) (l .opened k o .row) a) f
 
-    stood : (m : Maybe) → due (says rows start k) (r .stored) (r .checkpoint) (matches rows start p k (s .words) (r .kept)) ≡ m → Logged p k m (s .log)
+    stood : (m : Maybe) → owed rows start p k (s .words) r ≡ m → Logged p k m (s .log)
     stood m e = subst (λ d. Logged p k d (s .log)) e (l .opened k o .stands)
+
+    -- nothing is stored: with no swap nothing is due, and with one what it says
+    none-due : (r′ : Process) → r′ .stored ≡ None → hasSwapped rows start p k (s .words) r′ ≡ false → owed rows start p k (s .words) r′ ≡ None
+    unfolding due
+    none-due r′ st h = ap₂ (due (says rows start k (r′ .kept))) st h
+
+    swap-due : (words : List ℕ) → r .stored ≡ None → hasSwapped rows start p k words r ≡ true → owed rows start p k words r ≡ Is (says rows start k (r .kept))
+    unfolding due
+    swap-due words st h = ap₂ (due (says rows start k (r .kept))) st h
 
     -- a quiet step: what is due stays
     own-quiet : (r′ : Process) → r′ .opened ≡ r .opened → r′ .begun ≡ r .begun
-        → due (says rows start k) (r .stored) (r .checkpoint) (matches rows start p k (s .words) (r .kept)) ≡ due (says rows start k) (r′ .stored) (r′ .checkpoint) (matches rows start p k (s .words) (r′ .kept))
+        → owed rows start p k (s .words) r ≡ owed rows start p k (s .words) r′
         → StatusOk rows start Late p (suc t) (s .words) (s .log) r′ (r′ .status)
         → Own rows start Late p t s r (alone r′)
     unfolding apply
     own-quiet r′ eo eb ed w =
-        calm refl (λ ps. own-step rows start Late p t s r l k o (apply quiet ps s) r′ eo eb (λ j n. refl) refl (stood (due (says rows start k) (r′ .stored) (r′ .checkpoint) (matches rows start p k (s .words) (r′ .kept))) ed) w)
+        calm refl (λ ps. own-step rows start Late p t s r l k o (apply quiet ps s) r′ eo eb (λ j n. refl) refl (stood (owed rows start p k (s .words) r′) ed) w)
 
     seen-now : Seen rows start Late k (suc t) t word (s .log)
     seen-now =
@@ -252,17 +260,20 @@ module _ (rows : List Row) (start : List ℕ) (good : (k : ℕ) → Good (length
     seen-later a x h = let q : a < t = h .past in record { past = omega arith; late = h .late; then = h .then }
 
     reading-later : (a x : ℕ) → Reading rows start Late p k t a x (s .words) (s .log) → Reading rows start Late p k (suc t) a x (s .words) (s .log)
-    reading-later a x h = record { compares = h .compares; old = h .old; seen = seen-later a x (h .seen); since = h .since; own = h .own }
+    reading-later a x h = record { goes-on = h .goes-on; seen = seen-later a x (h .seen); since = h .since; own = h .own }
 
     own-A1 : (x a ta : ℕ) (ans : Maybe) → AtStage rows start Late p k t (s .words) (s .log) r A1 x a ans → Own rows start Late p t s r (moveOf rows (s .log) p t k (rowNumbered rows k .word) r (decide (rowNumbered rows k) p t word r A1 x a ta ans))
     unfolding decideIn isSwapped spoken
     own-A1 x a ta ans h = go (kindOf (rowNumbered rows k)) refl
       where
+        reading : GoesOn (kindOf (rowNumbered rows k)) (rowNumbered rows k .old) (value word) → Own rows start Late p t s r (alone (with-status (Busy A2 word t 0 None) r))
+        reading g =
+            own-quiet (with-status (Busy A2 word t 0 None) r) refl refl refl
+            (working k o ((h .0, h .1, record { goes-on = g; seen = seen-now; since = as-read refl; own = refl })))
+
         compared : kindOf (rowNumbered rows k) ≡ Compare → (d : Bool) → eqb (value word) (rowNumbered rows k .old) ≡ d
             → Own rows start Late p t s r (alone (with-status (cond d (Busy A2 word t 0 None) (Busy A5 word t 0 (Is False))) r))
-        compared q true e =
-            own-quiet (with-status (Busy A2 word t 0 None) r) refl refl refl
-            (working k o ((h .0, h .1, record { compares = q; old = eqb-true (value word) (rowNumbered rows k .old) e; seen = seen-now; since = as-read refl; own = refl })))
+        compared q true e = reading (subst (λ kind. GoesOn kind (rowNumbered rows k .old) (value word)) (sym q) (eqb-true (value word) (rowNumbered rows k .old) e))
         compared q false e =
             own-quiet (with-status (Busy A5 word t 0 (Is False)) r) refl refl refl
             (working k o ((h .0, held seen-now (sym (answer-other (rowNumbered rows k) (value word) q (eqb-false (value word) (rowNumbered rows k .old) e))) refl (h .1))))
@@ -272,19 +283,27 @@ module _ (rows : List Row) (start : List ℕ) (good : (k : ℕ) → Good (length
             own-quiet (with-status (Busy A5 word t 0 (Is (Value (value word)))) r) refl refl refl
             (working k o ((h .0, held seen-now (sym (answer-read (rowNumbered rows k) (value word) q)) refl (h .1))))
         go Compare q = compared q (eqb (value word) (rowNumbered rows k .old)) refl
+        go Advance q = reading (subst (λ kind. GoesOn kind (rowNumbered rows k .old) (value word)) (sym q) tt)
+
+    -- the own bit has not moved since the reading: with what was kept of it, there was no swap
+    unmatched : (r′ : Process) (a x : ℕ) → Reading rows start Late p k t a x (s .words) (s .log) → Keeps rows start p k x (r′ .kept) → hasSwapped rows start p k (s .words) r′ ≡ false
+    unmatched r′ a x h kept =
+        ap (λ b. r′ .checkpoint && b) (ap (sameBit (bit p word)) (kept .turned ∙ ap not (h .own)) ∙ same-not (bit p word))
+        ∙ and-false (r′ .checkpoint)
 
     own-A2 : (x a ta : ℕ) (ans : Maybe) → AtStage rows start Late p k t (s .words) (s .log) r A2 x a ans → Own rows start Late p t s r (moveOf rows (s .log) p t k (rowNumbered rows k .word) r (decide (rowNumbered rows k) p t word r A2 x a ta ans))
-    unfolding decideIn due
+    unfolding decideIn
     own-A2 x a ta ans h =
-        own-quiet (with-kept (Busy A3 x a ta ans) (not (bit p x)) r) refl refl (rw (h .0, h .1)) (working k o ((h .0, h .1, reading-later a x (h .2), refl)))
-
-    unmatched : (a x : ℕ) → Reading rows start Late p k t a x (s .words) (s .log) → r .kept ≡ not (bit p x) → matches rows start p k (s .words) (r .kept) ≡ false
-    unmatched a x h e = ap (sameBit (bit p word)) (e ∙ ap not (h .own)) ∙ same-not (bit p word)
+        let kind : Kind = kindOf (rowNumbered rows k) in
+        let r′ : Process = with-kept (Busy A3 x a ta ans) (keptBy kind (r .kept) (not (bit p x)) (value x)) r in
+        let keeps : Keeps rows start p k x (r′ .kept) = record { turned = bit-kept kind (r .kept) (not (bit p x)) (value x); recalls = kept-says kind (r .kept) (not (bit p x)) (value x) } in
+        own-quiet r′ refl refl (none-due r (h .0) (h .1) ∙ sym (none-due r′ (h .0) (unmatched r′ a x (h .2) keeps))) (working k o ((h .0, reading-later a x (h .2), keeps)))
 
     own-A3 : (x a ta : ℕ) (ans : Maybe) → AtStage rows start Late p k t (s .words) (s .log) r A3 x a ans → Own rows start Late p t s r (moveOf rows (s .log) p t k (rowNumbered rows k .word) r (decide (rowNumbered rows k) p t word r A3 x a ta ans))
-    unfolding decideIn due
+    unfolding decideIn
     own-A3 x a ta ans h =
-        own-quiet (with-checkpoint (Busy A4 x a ta ans) true r) refl refl (rw (h .0, h .1, unmatched a x (h .2) (h .3))) (working k o ((h .0, refl, reading-later a x (h .2), h .3)))
+        let r′ : Process = with-checkpoint (Busy A4 x a ta ans) true r in
+        own-quiet r′ refl refl (none-due r (h .0) (unmatched r a x (h .1) (h .2)) ∙ sym (none-due r′ (h .0) (unmatched r′ a x (h .1) (h .2)))) (working k o ((h .0, refl, reading-later a x (h .1), h .2)))
 
     own-A6 : (x a ta : ℕ) (ans : Maybe) → AtStage rows start Late p k t (s .words) (s .log) r A6 x a ans → Own rows start Late p t s r (moveOf rows (s .log) p t k (rowNumbered rows k .word) r (decide (rowNumbered rows k) p t word r A6 x a ta ans))
     unfolding decideIn due
@@ -300,25 +319,25 @@ module _ (rows : List Row) (start : List ℕ) (good : (k : ℕ) → Good (length
         go (Is b) e = own-quiet (with-status (Busy V5 x a ta ans) r) refl refl refl (working k o ((b, e)))
 
     own-V2 : (x a ta : ℕ) (ans : Maybe) → AtStage rows start Late p k t (s .words) (s .log) r V2 x a ans → Own rows start Late p t s r (moveOf rows (s .log) p t k (rowNumbered rows k .word) r (decide (rowNumbered rows k) p t word r V2 x a ta ans))
-    unfolding decideIn due
+    unfolding decideIn
     own-V2 x a ta ans h = go (r .checkpoint) refl
       where
         go : (c : Bool) → r .checkpoint ≡ c → Own rows start Late p t s r (alone (with-status (Busy (cond c V3 V6) x a ta ans) r))
         go true e = own-quiet (with-status (Busy V3 x a ta ans) r) refl refl refl (working k o ((h, e)))
-        go false e = own-quiet (with-status (Busy V6 x a ta ans) r) refl refl refl (working k o ((h, rw e)))
+        go false e = own-quiet (with-status (Busy V6 x a ta ans) r) refl refl refl (working k o ((h, ap (λ c. c && sameBit (bit p word) (r .kept .bit)) e)))
 
     own-V3 : (x a ta : ℕ) (ans : Maybe) → AtStage rows start Late p k t (s .words) (s .log) r V3 x a ans → Own rows start Late p t s r (moveOf rows (s .log) p t k (rowNumbered rows k .word) r (decide (rowNumbered rows k) p t word r V3 x a ta ans))
     unfolding decideIn
-    own-V3 x a ta ans h = go (matches rows start p k (s .words) (r .kept)) refl
+    own-V3 x a ta ans h = go (sameBit (bit p word) (r .kept .bit)) refl
       where
-        go : (c : Bool) → matches rows start p k (s .words) (r .kept) ≡ c → Own rows start Late p t s r (alone (with-status (Busy (cond c V4 V6) word a ta ans) r))
-        go true e = own-quiet (with-status (Busy V4 word a ta ans) r) refl refl refl (working k o ((h .0, h .1, e)))
-        go false e = own-quiet (with-status (Busy V6 word a ta ans) r) refl refl refl (working k o ((h .0, rw e (due-lost (says rows start k) (r .checkpoint)))))
+        go : (c : Bool) → sameBit (bit p word) (r .kept .bit) ≡ c → Own rows start Late p t s r (alone (with-status (Busy (cond c V4 V6) word a ta ans) r))
+        go true e = own-quiet (with-status (Busy V4 word a ta ans) r) refl refl refl (working k o ((h .0, ap₂ (λ c m. c && m) (h .1) e)))
+        go false e = own-quiet (with-status (Busy V6 word a ta ans) r) refl refl refl (working k o ((h .0, ap₂ (λ c m. c && m) (h .1) e)))
 
     own-V4 : (x a ta : ℕ) (ans : Maybe) → AtStage rows start Late p k t (s .words) (s .log) r V4 x a ans → Own rows start Late p t s r (moveOf rows (s .log) p t k (rowNumbered rows k .word) r (decide (rowNumbered rows k) p t word r V4 x a ta ans))
     unfolding decideIn due
     own-V4 x a ta ans h =
-        own-quiet (with-stored (Busy V5 x a ta ans) (Is (says rows start k)) r) refl refl (rw (h .0, h .1, h .2)) (working k o ((says rows start k, refl)))
+        own-quiet (with-stored (Busy V5 x a ta ans) (Is (says rows start k (r .kept))) r) refl refl (swap-due (s .words) (h .0) (h .1)) (working k o ((says rows start k (r .kept), refl)))
 
     own-V5 : (x a ta : ℕ) (ans : Maybe) → AtStage rows start Late p k t (s .words) (s .log) r V5 x a ans → Own rows start Late p t s r (moveOf rows (s .log) p t k (rowNumbered rows k .word) r (decide (rowNumbered rows k) p t word r V5 x a ta ans))
     unfolding decideIn due
@@ -328,73 +347,78 @@ module _ (rows : List Row) (start : List ℕ) (good : (k : ℕ) → Good (length
     own-V6 : (x a ta : ℕ) (ans : Maybe) → AtStage rows start Late p k t (s .words) (s .log) r V6 x a ans → Own rows start Late p t s r (moveOf rows (s .log) p t k (rowNumbered rows k .word) r (decide (rowNumbered rows k) p t word r V6 x a ta ans))
     unfolding decideIn
     own-V6 x a ta ans h =
-        make-busy (record { process = closed r; effect = replies (entry t p k None) }) (refl, named, refl) (λ ps. own-close rows start Late p t s r l k o (entry t p k None) None ps refl refl refl (rw (h .0) (h .1)))
+        make-busy (record { process = closed r; effect = replies (entry t p k None) }) (refl, named, refl) (λ ps. own-close rows start Late p t s r l k o (entry t p k None) None ps refl refl refl (none-due r (h .0) (h .1)))
 
-    -- A4: the swap succeeds
-    abbrev swapSaid : ℕ → Answer
-    swapSaid x = swapSays (kindOf (rowNumbered rows k)) (value x)
+    -- A4: what the swap says, and the word that it makes
+    abbrev saidAt : ℕ → Answer
+    saidAt x = swapSays (kindOf (rowNumbered rows k)) (value x)
 
-    swapping : (x a : ℕ) → Reading rows start Late p k t a x (s .words) (s .log) → eqb word x ≡ true
-        → Swapping rows start Late p k t s (rowNumbered rows k .word) (swapped p (newOf (rowNumbered rows k) (value x)) x) (entry t p k (Is (swapSaid x)))
+    abbrev madeOf : ℕ → ℕ
+    madeOf x = swapped p (newOf (rowNumbered rows k) (value x)) x
+
+    -- the swap succeeds
+    swapping : (x a : ℕ) → Reading rows start Late p k t a x (s .words) (s .log) → eqb word x ≡ true → Swapping rows start Late p k t s (rowNumbered rows k .word) (madeOf x) (entry t p k (Is (saidAt x)))
     swapping x a h e =
         let q : word ≡ x = eqb-true word x e in
+        let v : getD (final rows start (s .log)) (rowNumbered rows k .word) 0 ≡ value x = plain rows start good Late t s g (rowNumbered rows k .word) ∙ ap value q in
         record {
           at = refl;
           late = now;
           row = refl;
           truly = says-swapped (kindOf (rowNumbered rows k)) (value x);
           word = refl;
-          new = ap (λ x. swapped p (newOf (rowNumbered rows k) (value x)) x) (sym q);
+          new = ap madeOf (sym q);
           there = named;
-          right =
-              let there : getD (final rows start (s .log)) (rowNumbered rows k .word) 0 ≡ value x = plain rows start good Late t s g (rowNumbered rows k .word) ∙ ap value q in
-              sym (ap (answerOf (rowNumbered rows k)) there ∙ answer-old (rowNumbered rows k) (value x) (h .compares) (h .old));
+          right = sym (ap (answerOf (rowNumbered rows k)) v ∙ answer-swap (rowNumbered rows k) (value x) (h .goes-on));
         }
 
-    matched : (x a : ℕ) → Reading rows start Late p k t a x (s .words) (s .log) → r .kept ≡ not (bit p x)
-        → matches rows start p k (set (s .words) (rowNumbered rows k .word) (swapped p (newOf (rowNumbered rows k) (value x)) x)) (r .kept) ≡ true
-    matched x a h e =
+    matched : (x : ℕ) → r .checkpoint ≡ true → Keeps rows start p k x (r .kept) → hasSwapped rows start p k (set (s .words) (rowNumbered rows k .word) (madeOf x)) r ≡ true
+    matched x c kept =
         let inside : rowNumbered rows k .word < length (s .words) = subst (λ n. rowNumbered rows k .word < n) (sym (words-length rows start good Late t s g)) (good k .inside) in
-        ap₂ sameBit
-        (ap (bit p) (getD-set-same (s .words) (rowNumbered rows k .word) (swapped p (newOf (rowNumbered rows k) (value x)) x) 0 inside) ∙ after-swap width p (newOf (rowNumbered rows k) (value x)) x (good k .fits (value x)) .own)
-        e
-        ∙ same-self (not (bit p x))
+        let own : bit p (getD (set (s .words) (rowNumbered rows k .word) (madeOf x)) (rowNumbered rows k .word) 0) ≡ not (bit p x) =
+        ap (bit p) (getD-set-same (s .words) (rowNumbered rows k .word) (madeOf x) 0 inside) ∙ after-swap width p (newOf (rowNumbered rows k) (value x)) x (good k .fits (value x)) .own in
+        ap₂ (λ c b. c && b) c (ap₂ sameBit own (kept .turned) ∙ same-self (not (bit p x)))
+
+    -- the word is not as read: another's swap has come since
+    beaten-since : (x a : ℕ) → eqb word x ≡ false → Since rows start p (rowNumbered rows k .word) a word x (s .log) → HasOther rows start p (rowNumbered rows k .word) a (s .log)
+    beaten-since x a q (as-read n) = absurd (eqb-false word x q n)
+    beaten-since x a q (overtaken n) = n
 
     own-A4 : (x a ta : ℕ) (ans : Maybe) → AtStage rows start Late p k t (s .words) (s .log) r A4 x a ans → Own rows start Late p t s r (moveOf rows (s .log) p t k (rowNumbered rows k .word) r (decide (rowNumbered rows k) p t word r A4 x a ta ans))
-    unfolding decideIn triedIn apply due
+    unfolding decideIn triedIn apply
     own-A4 x a ta ans h = go (eqb word x) refl
       where
         e : Entry
-        e = entry t p k (Is (swapSaid x))
+        e = entry t p k (Is (saidAt x))
 
-        -- what it says over the value that it found, which is old
-        as-old : swapSaid x ≡ says rows start k
-        as-old = ap (swapSays (kindOf (rowNumbered rows k))) (h .2 .old)
-
-        x′ : ℕ
-        x′ = swapped p (newOf (rowNumbered rows k) (value x)) x
+        r′ : Process
+        r′ = with-status (Busy A5 x a t (Is (saidAt x))) r
 
         absent : of k (s .log) ≡ []
-        absent = stood None (rw (h .0, h .1, unmatched a x (h .2) (h .3)))
+        absent = stood None (none-due r (h .0) (unmatched r a x (h .2) (h .3)))
+
+        won-due : owed rows start p k (set (s .words) (rowNumbered rows k .word) (madeOf x)) r ≡ Is (saidAt x)
+        won-due = swap-due (set (s .words) (rowNumbered rows k .word) (madeOf x)) (h .0) (matched x (h .1) (h .3)) ∙ ap Is (h .3 .recalls)
+
+        -- a lost compare is false, a lost advance goes back to A1
+        lose : (kind : Kind) → kindOf (rowNumbered rows k) ≡ kind → GoesOn kind (rowNumbered rows k .old) (value x) → eqb word x ≡ false → Own rows start Late p t s r (alone (with-status (lostBy kind x a t) r))
+        lose Read f on q = absurd on
+        lose Compare f on q =
+            own-quiet (with-status (Busy A5 x a t (Is False)) r) refl refl refl
+            (working k o ((h .0, lost (seen-later a x (h .2 .seen)) refl f on (other-swap rows start p (rowNumbered rows k .word) a (s .log) (beaten-since x a q (h .2 .since))) (unmatched r a x (h .2) (h .3)))))
+        lose Advance f on q = own-quiet (with-status (Busy A1 0 0 0 None) r) refl refl refl (working k o ((h .0, unmatched r a x (h .2) (h .3))))
 
         go : (c : Bool) → eqb word x ≡ c
-            → Own rows start Late p t s r (moveOf rows (s .log) p t k (rowNumbered rows k .word) r (cond c (Swaps (with-status (Busy A5 x a t (Is (swapSaid x))) r) (swapped p (newOf (rowNumbered rows k) (value x)) x) (swapSaid x)) (Quiet (with-status (lostBy (kindOf (rowNumbered rows k)) x a t) r))))
+            → Own rows start Late p t s r (moveOf rows (s .log) p t k (rowNumbered rows k .word) r (cond c (Swaps (with-status (Busy A5 x a t (Is (saidAt x))) r) (madeOf x) (saidAt x)) (Quiet (with-status (lostBy (kindOf (rowNumbered rows k)) x a t) r))))
         go true q =
-            make-busy (record { process = with-status (Busy A5 x a t (Is (swapSaid x))) r; effect = swaps (rowNumbered rows k .word) x′ e }) (swapping x a (h .2) q)
-            (λ ps. own-step rows start Late p t s r l k o (apply (swaps (rowNumbered rows k .word) x′ e) ps s) (with-status (Busy A5 x a t (Is (swapSaid x))) r) refl refl
+            make-busy (record { process = r′; effect = swaps (rowNumbered rows k .word) (madeOf x) e }) (swapping x a (h .2) q)
+            (λ ps. own-step rows start Late p t s r l k o (apply (swaps (rowNumbered rows k .word) (madeOf x) e) ps s) r′ refl refl
             (λ j n. of-put j e (put e (s .log) (g .sorted)) (λ m. n (sym m))) refl
-            (rw (h .0, h .1, matched x a (h .2) (h .3)) (record { entry = e; once = of-put-own k e (put e (s .log) (g .sorted)) refl absent; process = refl; says-so = ap (λ b. spoken (Is b)) as-old }))
-            (working k o ((h .0, won (ap Is as-old) (h .1) (matched x a (h .2) (h .3))))))
-        go false q =
-            subst (λ st. Own rows start Late p t s r (alone (with-status st r))) (sym (loss-false (kindOf (rowNumbered rows k)) x a t))
-            (own-quiet (with-status (Busy A5 x a t (Is False)) r) refl refl refl
-            (working k o ((h .0, lost (seen-later a x (h .2 .seen)) refl (h .2 .compares) (h .2 .old) (passed (h .2 .since)) (unmatched a x (h .2) (h .3))))))
-          where
-            passed : Since rows start (rowNumbered rows k .word) a word x (s .log) → HasSwap rows start (rowNumbered rows k .word) a (s .log)
-            passed (as-read n) = absurd (eqb-false word x q n)
-            passed (overtaken n) = n
+            (subst (λ d. Logged p k d (insert e (s .log))) (sym won-due) (record { entry = e; once = of-put-own k e (put e (s .log) (g .sorted)) refl absent; process = refl; says-so = refl }))
+            (working k o ((h .0, won (ap Is (sym (h .3 .recalls))) (matched x (h .1) (h .3))))))
+        go false q = lose (kindOf (rowNumbered rows k)) refl (h .2 .goes-on) q
 
-    -- A5: an answer that is no true enters the log, at a place where it is right
+    -- A5: an answer that tells of no swap enters the log, at a place where it is right
     own-logs : (x a ta q : ℕ) (b : Answer) → isSwapped (spoken (Is b)) ≡ false → q < t → Late k q → RightAt rows (final rows start (early q (s .log))) (entry q p k (Is b)) → of k (s .log) ≡ []
         → Own rows start Late p t s r (record { process = with-stored (Busy A6 x a ta (Is b)) (Is b) r; effect = logs (entry q p k (Is b)) })
     unfolding apply due
@@ -423,32 +447,36 @@ module _ (rows : List Row) (start : List ℕ) (good : (k : ℕ) → Good (length
           past = all-right (λ e. e .position < t) (d .front) (n .entry ∷ d .back) b .0;
         })
 
-    own-A5 : (x a ta : ℕ) (ans : Maybe) → r .stored ≡ None → Pending rows start Late p k t a x (s .words) (s .log) (r .checkpoint) (r .kept) ans → Own rows start Late p t s r (moveOf rows (s .log) p t k (rowNumbered rows k .word) r (decide (rowNumbered rows k) p t word r A5 x a ta ans))
-    unfolding decideIn storingIn due isSwapped spoken
-    own-A5 x a ta ans st (won e c m) =
+    -- A5: a swap that succeeded is in the log since A4
+    own-won : (x a ta : ℕ) (ans : Maybe) → r .stored ≡ None → hasSwapped rows start p k (s .words) r ≡ true → ans ≡ Is (says rows start k (r .kept))
+        → Own rows start Late p t s r (moveOf rows (s .log) p t k (rowNumbered rows k .word) r (decide (rowNumbered rows k) p t word r A5 x a ta ans))
+    unfolding decideIn due
+    own-won x a ta ans st m e =
         let next : Process = with-stored (Busy A6 x a ta ans) ans r in
-        let stays : Turn = storing (rowNumbered rows k) next x a ta ans in
-        let is : stays ≡ Quiet next = ap (storing (rowNumbered rows k) next x a ta) e ∙ says-stored (kindOf (rowNumbered rows k)) (rowNumbered rows k .old) (rowNumbered rows k) next x a ta in
+        let is : storing (rowNumbered rows k) next x a ta ans ≡ Quiet next = ap (storing (rowNumbered rows k) next x a ta) e ∙ says-stored (kindOf (rowNumbered rows k)) (r .kept .value) (rowNumbered rows k) next x a ta in
         subst (λ u. Own rows start Late p t s r (moveOf rows (s .log) p t k (rowNumbered rows k .word) r u)) (sym is)
-        (own-quiet next refl refl (rw (st, c, m, e)) (working k o (says rows start k, e, e)))
-    own-A5 x a ta None st (held h e n c) = absurd (answer-never (rowNumbered rows k) (value x) e)
-    own-A5 x a ta (Is True) st (held h e n c) = absurd (true≢false n)
-    own-A5 x a ta (Is False) st (held h e n c) =
+        (own-quiet next refl refl (swap-due (s .words) st m ∙ rw e refl) (working k o (says rows start k (r .kept), e, e)))
+
+    own-A5 : (x a ta : ℕ) (ans : Maybe) → r .stored ≡ None → Pending rows start Late p k t a x (s .log) (hasSwapped rows start p k (s .words) r) (r .kept) ans → Own rows start Late p t s r (moveOf rows (s .log) p t k (rowNumbered rows k .word) r (decide (rowNumbered rows k) p t word r A5 x a ta ans))
+    unfolding decideIn storingIn isSwapped spoken
+    own-A5 x a ta ans st (won e m) = own-won x a ta ans st m e
+    own-A5 x a ta None st (held h e n m) = absurd (answer-never (rowNumbered rows k) (value x) e)
+    own-A5 x a ta (Is True) st (held h e n m) = absurd (true≢false n)
+    own-A5 x a ta (Is (Was v)) st (held h e n m) = absurd (true≢false n)
+    own-A5 x a ta (Is False) st (held h e n m) =
         rw (answer-false (rowNumbered rows k) (value x) e)
-        (own-logs x a ta a False refl (h .past) (h .late) (e ∙ ap (answerOf (rowNumbered rows k)) (sym (h .then))) (stood None (rw (st, c))))
-    own-A5 x a ta (Is (Value v)) st (held h e n c) = own-logs x a ta a (Value v) refl (h .past) (h .late) (e ∙ ap (answerOf (rowNumbered rows k)) (sym (h .then))) (stood None (rw (st, c)))
-    own-A5 x a ta None st (lost h e c v w m) = absurd (let z : _≡_ {A = ℕ} 0 1 = cc in omega arith)
-    own-A5 x a ta (Is True) st (lost h e c v w m) = absurd (let z : _≡_ {A = ℕ} 0 1 = cc in omega arith)
-    own-A5 x a ta (Is False) st (lost h e c v w m) =
+        (own-logs x a ta a False refl (h .past) (h .late) (e ∙ ap (answerOf (rowNumbered rows k)) (sym (h .then))) (stood None (none-due r st m)))
+    own-A5 x a ta (Is (Value v)) st (held h e n m) = own-logs x a ta a (Value v) refl (h .past) (h .late) (e ∙ ap (answerOf (rowNumbered rows k)) (sym (h .then))) (stood None (none-due r st m))
+    own-A5 x a ta ans st (lost h e c v w m) =
         let q : ℕ = firstSwap rows (rowNumbered rows k .word) a ta (s .log) in
         let pl : Place a q = swap-place a ta w in
         let le : a < q = pl .after in
-        rw (eq-eqb (value x) (rowNumbered rows k .old) v)
+        subst (λ ans. Own rows start Late p t s r (moveOf rows (s .log) p t k (rowNumbered rows k .word) r (decide (rowNumbered rows k) p t word r A5 x a ta ans))) (sym e)
+        (rw (eq-eqb (value x) (rowNumbered rows k .old) v)
         (own-logs x a ta q False refl (pl .past) (mono k a q (omega arith) (h .late))
         (sym (answer-other (rowNumbered rows k) (getD (final rows start (early q (s .log))) (rowNumbered rows k .word) 0) c
         (λ y. replay.lost rows start good (rowNumbered rows k .word) a ta (s .log) (w .entry) (w .rest) (g .sorted) (g .right) (g .there) (w .is) (y ∙ sym v ∙ sym (h .then)))))
-        (stood None (rw (st, m) (due-lost (says rows start k) (r .checkpoint)))))
-    own-A5 x a ta (Is (Value u)) st (lost h e c v w m) = absurd (let z : _≡_ {A = ℕ} 0 1 = cc in omega arith)
+        (stood None (none-due r st m))))
 
     pub own-stage : (stage : Stage) (x a ta : ℕ) (ans : Maybe) → AtStage rows start Late p k t (s .words) (s .log) r stage x a ans → Own rows start Late p t s r (moveOf rows (s .log) p t k (rowNumbered rows k .word) r (decide (rowNumbered rows k) p t word r stage x a ta ans))
     own-stage A1 x a ta ans h = own-A1 x a ta ans h

@@ -122,7 +122,7 @@ module _ (rows : List Row) (start : List ℕ) (good : (k : ℕ) → Good (length
       inv-own p u h (busy i j _ a loc) =
           inv-apply p (u .effect) (u .process) h
           (λ ps. global-effect rows start good Late p (first rows p + i) t (u .effect) ps s (v .global) a)
-          (λ q r ps n. frame-effect rows start good Late p q (first rows p + i) t (u .effect) ps s r (v .global) a n (λ k m e. distinct p q i k j m n e))
+          (λ q r ps n. frame-effect rows start good Late p q (first rows p + i) t (u .effect) ps s r (v .global) a (owner p i j) n (λ k m e. distinct p q i k j m n e))
           loc
 
       -- nothing happens

@@ -6,22 +6,21 @@ use mathlib.Core.Bool.{Bool, true, false, cond, _&&_, true≢false}
 use mathlib.Core.List.{List, [], _∷_, _++_, map}
 use native.Mathlib.Omega.{arith}
 use lib.Dec.{eqb, ltb}
-use lib.ListN.{length, getD, set, take, length-map, List·getD-eq-default}
-use lib.Seq.{getD-set-same, getD-set-other, set-out}
-use borrow.Author.Tests.{eqb-true, eqb-false, ltb-true, ltb-false}
+use lib.ListN.{length, getD, take}
+use borrow.Author.Tests.{eq-eqb, eqb-true}
 use Rattle.runfile.specs.declared.Row.{Row}
 use Rattle.runfile.specs.declared.Kind.{Kind}
-use Rattle.runfile.specs.declared.Kind.the-variants.{Read, Compare}
+use Rattle.runfile.specs.declared.Kind.the-variants.{Read, Compare, Advance}
 use Rattle.runfile.specs.Operations.{rowNumbered, count, names}
 use Rattle.runfile.specs.Kinds.{kindOf, newOf}
-use Rattle.runfile.specs.Actions.{Action, step as steps, crash as crashes, wake as wakes, crashAll as crashesAll, none as idles, action, named}
+use Rattle.runfile.specs.Actions.{named}
 use Rattle.word.specs.Word.{value, bit, swapped}
 use Rattle.rows.specs.declared.Entry.{Entry}
 use Rattle.rows.specs.Entries.{said, isSwapped}
 use Rattle.rows.specs.Log.{isSwap, firstSwap, insert}
 use Rattle.machine.specs.declared.Process.{Process}
 use Rattle.machine.specs.declared.Answer.{Answer}
-use Rattle.machine.specs.declared.Answer.the-variants.{False, True, Value}
+use Rattle.machine.specs.declared.Answer.the-variants.{False, True, Value, Was}
 use Rattle.machine.specs.declared.Maybe.{Maybe}
 use Rattle.machine.specs.declared.Maybe.the-variants.{None, Is}
 use Rattle.machine.specs.declared.Opened.{Opened}
@@ -31,18 +30,18 @@ use Rattle.machine.specs.declared.Stage.the-variants.{A1, A2, A3, A4, A5, A6, V
 use Rattle.machine.specs.declared.Status.{Status}
 use Rattle.machine.specs.declared.Status.the-variants.{Down, Idle, N2, N3, Busy}
 use Rattle.machine.specs.Turn.{Turn, Still, Quiet, Swaps, Logs, Loses}
-use Rattle.machine.specs.Records.{fresh, crashed, waked, wokenUp, with-status, with-stored, rowOpen}
-use Rattle.machine.specs.Steps.{spoken, entry, readBy, swapSays, lostBy, tried, storing, recovered, sameBit, decide, atWork, stepTurn, triedIn, storingIn, decideIn, stepTurnIn}
+use Rattle.machine.specs.Records.{waked, wokenUp, with-status, with-stored, rowOpen}
+use Rattle.machine.specs.Steps.{spoken, entry, readBy, swapSays, lostBy, recovered, sameBit, decide, atWork, triedIn, storingIn, decideIn, stepTurnIn}
 use Rattle.machine.specs.KindLaws.{says-swapped}
-use Rattle.machine.specs.Machine.{State, quiet, swaps, logs, replies, effectOf, processOf, logAfter, procAt, apply, applied, turn, act, step, after, begin, turnIn, actIn, stepIn, afterIn}
+use Rattle.machine.specs.Machine.{State, quiet, swaps, logs, replies, effectOf, processOf, logAfter, procAt, turn, after, begin, turnIn, afterIn}
 use Rattle.machine.specs.Laws.{fresh-at}
 use Rattle.replay.specs.Lists.{All, all-map, keep, keep-join, keep-none, keep-put-no, Found, keep-found}
 use Rattle.replay.specs.Logs.{Put, put, insert-last}
+use Rattle.replay.specs.Replay.{GoesOn}
 use Rattle.demand3.specs.Statement.{of, ownerOf}
 use Rattle.demand3.specs.FlipBit.{Beaten, Then, ReadThen, at-read, at-loss}
 use Rattle.demand3.specs.Plans.{Plan}
-use Rattle.demand3.specs.Preserve.{getD-map-lt}
-use Rattle.demand3.specs.Moves.{Does, nothing, allowed}
+use Rattle.demand3.specs.Moves.{became, log-became, Does, nothing, allowed}
 use Rattle.demand3.specs.Order.{Always}
 use Rattle.demand3.specs.Lost.{beaten}
 use Rattle.demand3.specs.Told.{reached}
@@ -62,116 +61,72 @@ value-none : (v : ℕ) → isSwapped (spoken (Is (Value v))) ≡ false
 unfolding isSwapped spoken
 value-none v = refl
 
--- what a byte makes of a record: nothing, a step, a crash, a wake
-module _ (rows : List Row) where
-  set-either : (Q : Process → Type 0) (l : List Process) (q p : ℕ) (r : Process) → Q (getD l p fresh) → (p ≡ q → Q r) → Q (getD (set l q r) p fresh)
-  set-either Q l q p r h g = go (eqb p q) refl
-    where
-      here : (c : Bool) → ltb q (length l) ≡ c → p ≡ q → Q (getD (set l q r) p fresh)
-      here true c e = subst Q (sym (ap (λ p. getD (set l q r) p fresh) e ∙ getD-set-same l q r fresh (ltb-true q (length l) c))) (g e)
-      here false c e = subst (λ l. Q (getD l p fresh)) (sym (set-out l q r (ltb-false q (length l) c))) h
-
-      go : (c : Bool) → eqb p q ≡ c → Q (getD (set l q r) p fresh)
-      go true e = here (ltb q (length l)) refl (eqb-true p q e)
-      go false e = subst Q (sym (getD-set-other l q p r fresh (eqb-false p q e))) h
-
-  down-either : (Q : Process → Type 0) (l : List Process) (p : ℕ) → Q (getD l p fresh) → Q (crashed (getD l p fresh)) → Q (getD (map crashed l) p fresh)
-  down-either Q l p h g = go (ltb p (length l)) refl
-    where
-      go : (c : Bool) → ltb p (length l) ≡ c → Q (getD (map crashed l) p fresh)
-      go true c = subst Q (sym (getD-map-lt crashed l p fresh fresh (ltb-true p (length l) c))) g
-      go false c =
-          subst Q
-          (List·getD-eq-default l fresh (ltb-false p (length l) c) ∙ sym (List·getD-eq-default (map crashed l) fresh (subst (λ n. n ≤ p) (sym (length-map l crashed)) (ltb-false p (length l) c)))) h
-
-  became : (Q : Process → Type 0) (n b p : ℕ) (s : State) → Q (procAt p s) → Q (turn rows p n (s .words) (s .log) (procAt p s) (procAt p s .status) .process)
-      → Q (crashed (procAt p s)) → Q (waked (procAt p s) (procAt p s .status)) → Q (procAt p (step rows n b s))
-  unfolding stepIn actIn applied apply procAt
-  became Q n b p s h t c w = go (action b)
-    where
-      go : (a : Action) → Q (getD (act rows n a (named b) s .processes) p fresh)
-      go steps = set-either Q (s .processes) (named b) p (turn rows (named b) n (s .words) (s .log) (procAt (named b) s) (procAt (named b) s .status) .process) h (λ e. subst (λ q. Q (turn rows q n (s .words) (s .log) (procAt q s) (procAt q s .status) .process)) e t)
-      go crashes = set-either Q (s .processes) (named b) p (crashed (procAt (named b) s)) h (λ e. subst (λ q. Q (crashed (procAt q s))) e c)
-      go wakes = set-either Q (s .processes) (named b) p (waked (procAt (named b) s) (procAt (named b) s .status)) h (λ e. subst (λ q. Q (waked (procAt q s) (procAt q s .status))) e w)
-      go crashesAll = down-either Q (s .processes) p h c
-      go idles = h
-
-  -- and of the log: nothing, or what the step of the process that it names does
-  log-became : (Q : List Entry → Type 0) (n b : ℕ) (s : State) → Q (s .log) → Q (logAfter (turn rows (named b) n (s .words) (s .log) (procAt (named b) s) (procAt (named b) s .status) .effect) (s .log)) → Q (step rows n b s .log)
-  unfolding stepIn actIn applied apply
-  log-became Q n b s h t = go (action b)
-    where
-      go : (a : Action) → Q (act rows n a (named b) s .log)
-      go steps = t
-      go crashes = h
-      go wakes = h
-      go crashesAll = h
-      go idles = h
-
 module _ (rows : List Row) (words : List ℕ) (P : ℕ) (plan : Plan P (length words) rows) (schedule : List ℕ) where
-  abbrev now : ℕ → State
+  abbrev pub now : ℕ → State
   now n = at rows words P plan schedule n
 
   -- after the byte at a, process p has row k open, and this status
-  abbrev Has : (p k a : ℕ) → Status → Type 0
+  abbrev pub Has : (p k a : ℕ) → Status → Type 0
   Has p k a status = (procAt p (now (suc a)) .opened ≡ Open k) × (procAt p (now (suc a)) .status ≡ status)
 
   -- the value that was read is old
-  abbrev isOld : (k x : ℕ) → Bool
+  abbrev pub isOld : (k x : ℕ) → Bool
   isOld k x = eqb (value x) (rowNumbered rows k .old)
 
   -- at A5: its A1 went here; it went to A2, and the swap was lost; it swapped
-  data AtFive (p k x a : ℕ) (answer : Maybe) : Type 0 where
+  pub data AtFive (p k x a : ℕ) (answer : Maybe) : Type 0 where
     read-so : Has p k a (Busy A5 x a 0 answer) → (answer ≡ Is False → isOld k x ≡ false) → AtFive p k x a answer
     lost-so : Has p k a (Busy A2 x a 0 None) → isOld k x ≡ true → answer ≡ Is False → AtFive p k x a answer
     won-so : isSwapped (spoken answer) ≡ true → AtFive p k x a answer
 
-  abbrev Kept : (p k : ℕ) → Stage → (x a : ℕ) → Maybe → Type 0
-  Kept p k A1 x a answer = Unit {0}
-  Kept p k A2 x a answer = Has p k a (Busy A2 x a 0 None) × (isOld k x ≡ true)
-  Kept p k A3 x a answer = Has p k a (Busy A2 x a 0 None) × (isOld k x ≡ true)
-  Kept p k A4 x a answer = Has p k a (Busy A2 x a 0 None) × (isOld k x ≡ true)
-  Kept p k A5 x a answer = AtFive p k x a answer
-  Kept p k A6 x a answer = Unit {0}
-  Kept p k V1 x a answer = Unit {0}
-  Kept p k V2 x a answer = Unit {0}
-  Kept p k V3 x a answer = Unit {0}
-  Kept p k V4 x a answer = Unit {0}
-  Kept p k V5 x a answer = Unit {0}
-  Kept p k V6 x a answer = Unit {0}
+  abbrev pub Remembers : (p k : ℕ) → Stage → (x a : ℕ) → Maybe → Type 0
+  Remembers p k A1 x a answer = Unit {0}
+  Remembers p k A2 x a answer = Has p k a (Busy A2 x a 0 None) × GoesOn (kindOf (rowNumbered rows k)) (rowNumbered rows k .old) (value x)
+  Remembers p k A3 x a answer = Has p k a (Busy A2 x a 0 None) × GoesOn (kindOf (rowNumbered rows k)) (rowNumbered rows k .old) (value x)
+  Remembers p k A4 x a answer = Has p k a (Busy A2 x a 0 None) × GoesOn (kindOf (rowNumbered rows k)) (rowNumbered rows k .old) (value x)
+  Remembers p k A5 x a answer = AtFive p k x a answer
+  Remembers p k A6 x a answer = Unit {0}
+  Remembers p k V1 x a answer = Unit {0}
+  Remembers p k V2 x a answer = Unit {0}
+  Remembers p k V3 x a answer = Unit {0}
+  Remembers p k V4 x a answer = Unit {0}
+  Remembers p k V5 x a answer = Unit {0}
+  Remembers p k V6 x a answer = Unit {0}
 
   -- what a process with this open row and this status remembers
-  abbrev Hist : ℕ → Opened → Status → Type 0
+  abbrev pub Hist : ℕ → Opened → Status → Type 0
   Hist p o Down = Unit {0}
   Hist p o Idle = Unit {0}
   Hist p o N2 = Unit {0}
   Hist p o N3 = Unit {0}
-  Hist p o (Busy stage x a triedAt answer) = (k : ℕ) → o ≡ Open k → Kept p k stage x a answer
+  Hist p o (Busy stage x a triedAt answer) = (k : ℕ) → o ≡ Open k → Remembers p k stage x a answer
 
   module _ (n p k : ℕ) (r : Process) (q : r .opened ≡ Open k) where
-    held : (stage : Stage) (x a ta : ℕ) (answer : Maybe) → Kept p k stage x a answer → Hist p (r .opened) (Busy stage x a ta answer)
-    held stage x a ta answer h = λ j o. subst (λ k. Kept p k stage x a answer) (open-same q o) h
+    held : (stage : Stage) (x a ta : ℕ) (answer : Maybe) → Remembers p k stage x a answer → Hist p (r .opened) (Busy stage x a ta answer)
+    held stage x a ta answer h = λ j o. subst (λ k. Remembers p k stage x a answer) (open-same q o) h
 
     -- the record that it has after the byte at n
     this : (status : Status) → procAt p (now (suc n)) ≡ with-status status r → Has p k n status
     this status e = (ap (λ r. r .opened) e ∙ q, ap (λ r. r .status) e)
 
-    hist-A1 : (word : ℕ) (kind : Kind) → procAt p (now (suc n)) ≡ with-status (readBy kind (rowNumbered rows k .old) word n) r → Hist p (r .opened) (readBy kind (rowNumbered rows k .old) word n)
-    hist-A1 word Read e = held A5 word n 0 (Is (Value (value word))) (read-so (this (Busy A5 word n 0 (Is (Value (value word)))) e) (λ f. absurd (value-not f)))
-    hist-A1 word Compare e = go (isOld k word) refl e
+    hist-A1 : (word : ℕ) (kind : Kind) → kindOf (rowNumbered rows k) ≡ kind → procAt p (now (suc n)) ≡ with-status (readBy kind (rowNumbered rows k .old) word n) r → Hist p (r .opened) (readBy kind (rowNumbered rows k .old) word n)
+    hist-A1 word Read f e = held A5 word n 0 (Is (Value (value word))) (read-so (this (Busy A5 word n 0 (Is (Value (value word)))) e) (λ f. absurd (value-not f)))
+    hist-A1 word Compare f e = go (isOld k word) refl e
       where
         go : (c : Bool) → isOld k word ≡ c → procAt p (now (suc n)) ≡ with-status (cond c (Busy A2 word n 0 None) (Busy A5 word n 0 (Is False))) r → Hist p (r .opened) (cond c (Busy A2 word n 0 None) (Busy A5 word n 0 (Is False)))
-        go true c e = held A2 word n 0 None (this (Busy A2 word n 0 None) e, c)
+        go true c e = held A2 word n 0 None (this (Busy A2 word n 0 None) e, subst (λ kind. GoesOn kind (rowNumbered rows k .old) (value word)) (sym f) (eqb-true (value word) (rowNumbered rows k .old) c))
         go false c e = held A5 word n 0 (Is False) (read-so (this (Busy A5 word n 0 (Is False)) e) (λ f. c))
+    hist-A1 word Advance f e = held A2 word n 0 None (this (Busy A2 word n 0 None) e, subst (λ kind. GoesOn kind (rowNumbered rows k .old) (value word)) (sym f) tt)
 
-    hist-lost : (kind : Kind) (x a : ℕ) → Has p k a (Busy A2 x a 0 None) × (isOld k x ≡ true) → Hist p (r .opened) (lostBy kind x a n)
-    hist-lost Read x a h = held A5 x a n (Is False) (lost-so (h .0) (h .1) refl)
-    hist-lost Compare x a h = held A5 x a n (Is False) (lost-so (h .0) (h .1) refl)
+    hist-lost : (kind : Kind) (x a : ℕ) → Has p k a (Busy A2 x a 0 None) → GoesOn kind (rowNumbered rows k .old) (value x) → Hist p (r .opened) (lostBy kind x a n)
+    hist-lost Read x a h on = absurd on
+    hist-lost Compare x a h on = held A5 x a n (Is False) (lost-so h (eq-eqb (value x) (rowNumbered rows k .old) on) refl)
+    hist-lost Advance x a h on = held A1 0 0 0 None tt
 
-    hist-A4 : (x a y : ℕ) (says : Answer) → isSwapped (spoken (Is says)) ≡ true → Has p k a (Busy A2 x a 0 None) × (isOld k x ≡ true) → (kind : Kind) (c : Bool)
+    hist-A4 : (x a y : ℕ) (says : Answer) → isSwapped (spoken (Is says)) ≡ true → (kind : Kind) → Has p k a (Busy A2 x a 0 None) × GoesOn kind (rowNumbered rows k .old) (value x) → (c : Bool)
         → Hist p (processOf r (cond c (Swaps (with-status (Busy A5 x a n (Is says)) r) y says) (Quiet (with-status (lostBy kind x a n) r))) .opened) (processOf r (cond c (Swaps (with-status (Busy A5 x a n (Is says)) r) y says) (Quiet (with-status (lostBy kind x a n) r))) .status)
-    hist-A4 x a y says t h kind true = held A5 x a n (Is says) (won-so t)
-    hist-A4 x a y says t h kind false = hist-lost kind x a h
+    hist-A4 x a y says t kind h true = held A5 x a n (Is says) (won-so t)
+    hist-A4 x a y says t kind h false = hist-lost kind x a (h .0) (h .1)
 
     -- at A6 and in the recovery nothing is remembered
     hist-A5 : (next : Process) (x a ta : ℕ) (answer : Maybe) → next .status ≡ Busy A6 x a ta answer → (u : ℕ) (c : Bool) → Hist p (processOf r (cond c (Loses next a u) (Logs next a False)) .opened) (processOf r (cond c (Loses next a u) (Logs next a False)) .status)
@@ -190,22 +145,23 @@ module _ (rows : List Row) (words : List ℕ) (P : ℕ) (plan : Plan P (length w
     hist-V3 x a ta answer true = λ j o. tt
     hist-V3 x a ta answer false = λ j o. tt
 
-    hist-stage : (word : ℕ) (stage : Stage) (x a ta : ℕ) (answer : Maybe) → Kept p k stage x a answer
+    hist-stage : (word : ℕ) (stage : Stage) (x a ta : ℕ) (answer : Maybe) → Remembers p k stage x a answer
         → procAt p (now (suc n)) ≡ processOf r (decide (rowNumbered rows k) p n word r stage x a ta answer)
         → Hist p (processOf r (decide (rowNumbered rows k) p n word r stage x a ta answer) .opened) (processOf r (decide (rowNumbered rows k) p n word r stage x a ta answer) .status)
     unfolding decideIn triedIn storingIn
-    hist-stage word A1 x a ta answer h e = hist-A1 word (kindOf (rowNumbered rows k)) e
+    hist-stage word A1 x a ta answer h e = hist-A1 word (kindOf (rowNumbered rows k)) refl e
     hist-stage word A2 x a ta answer h e = held A3 x a ta answer h
     hist-stage word A3 x a ta answer h e = held A4 x a ta answer h
-    hist-stage word A4 x a ta answer h e = hist-A4 x a (swapped p (newOf (rowNumbered rows k) (value x)) x) (swapSays (kindOf (rowNumbered rows k)) (value x)) (says-swapped (kindOf (rowNumbered rows k)) (value x)) h (kindOf (rowNumbered rows k)) (eqb word x)
+    hist-stage word A4 x a ta answer h e = hist-A4 x a (swapped p (newOf (rowNumbered rows k) (value x)) x) (swapSays (kindOf (rowNumbered rows k)) (value x)) (says-swapped (kindOf (rowNumbered rows k)) (value x)) (kindOf (rowNumbered rows k)) h (eqb word x)
     hist-stage word A5 x a ta None h e = λ j o. tt
     hist-stage word A5 x a ta (Is True) h e = λ j o. tt
+    hist-stage word A5 x a ta (Is (Was v)) h e = λ j o. tt
     hist-stage word A5 x a ta (Is (Value v)) h e = λ j o. tt
     hist-stage word A5 x a ta (Is False) h e = hist-A5 (with-stored (Busy A6 x a ta (Is False)) (Is False) r) x a ta (Is False) refl ta (isOld k x)
     hist-stage word A6 x a ta answer h e = tt
     hist-stage word V1 x a ta answer h e = hist-V1 x a ta answer (r .stored)
     hist-stage word V2 x a ta answer h e = hist-V2 x a ta answer (r .checkpoint)
-    hist-stage word V3 x a ta answer h e = hist-V3 word a ta answer (sameBit (bit p word) (r .kept))
+    hist-stage word V3 x a ta answer h e = hist-V3 word a ta answer (sameBit (bit p word) (r .kept .bit))
     hist-stage word V4 x a ta answer h e = λ j o. tt
     hist-stage word V5 x a ta answer h e = tt
     hist-stage word V6 x a ta answer h e = tt
@@ -246,7 +202,7 @@ module _ (rows : List Row) (words : List ℕ) (P : ℕ) (plan : Plan P (length w
   unfolding afterIn begin procAt
   first-state p = rw (fresh-at P p) tt
 
-  hist : (n : ℕ) → n ≤ length schedule → (p : ℕ) → Hist p (procAt p (now n) .opened) (procAt p (now n) .status)
+  pub hist : (n : ℕ) → n ≤ length schedule → (p : ℕ) → Hist p (procAt p (now n) .opened) (procAt p (now n) .status)
   hist = along rows words P plan schedule (λ n. (p : ℕ) → Hist p (procAt p (now n) .opened) (procAt p (now n) .status)) first-state each
     where
       each : (n : ℕ) → n < length schedule → ((p : ℕ) → Hist p (procAt p (now n) .opened) (procAt p (now n) .status)) → (p : ℕ) → Hist p (procAt p (now (suc n)) .opened) (procAt p (now (suc n)) .status)
@@ -352,6 +308,7 @@ module _ (rows : List Row) (words : List ℕ) (P : ℕ) (plan : Plan P (length w
           (swapSays (kindOf (rowNumbered rows k)) (value x)) (says-swapped (kindOf (rowNumbered rows k)) (value x)) (eqb word x)
       plain-stage word A5 x a ta None is = v
       plain-stage word A5 x a ta (Is True) is = v
+      plain-stage word A5 x a ta (Is (Was u)) is = v
       plain-stage word A5 x a ta (Is (Value u)) is = more (entry a p k (Is (Value u))) (plain-read n h p k r same o x a ta (Is (Value u)) is (value-none u) (λ f. absurd (value-not f)))
       plain-stage word A5 x a ta (Is False) is = plain-false n x a ta is (with-stored (Busy A6 x a ta (Is False)) (Is False) r) (isOld k x) refl
       plain-stage word A6 x a ta answer is = v
@@ -393,7 +350,7 @@ module _ (rows : List Row) (words : List ℕ) (P : ℕ) (plan : Plan P (length w
   abbrev end : State
   end = after rows 0 schedule (begin P words)
 
-  then : (k a : ℕ) (status : Status) → Has (ownerOf rows k) k a status → Then rows P words schedule k a status
+  pub then : (k a : ℕ) (status : Status) → Has (ownerOf rows k) k a status → Then rows P words schedule k a status
   then k a status h =
       let e = reached rows words P plan (take (suc a) schedule) in
       record { opened = ap (λ s. procAt (ownerOf rows k) s .opened) e ∙ h .0; is = ap (λ s. procAt (ownerOf rows k) s .status) e ∙ h .1 }

@@ -2,7 +2,7 @@
 -- words (`Plain.antt`). A machine is given by its states, its step and what is to be seen of a state (`Firmware`); that an operation has begun,
 -- has ended, has swapped or has stored its answer is said of that machine's own states, and the log is not asked. `FlipBit.antt` gives the
 -- bench machine, `File.antt` proves the demand of every run file that is not refused, and of what `run` leaves in the three buffers;
--- `Wrong.antt` gives four machines that break it.
+-- `Wrong.antt` gives five machines that break it.
 --
 -- An operation is a row of the file, known by its number k.
 use Prim.Native.Nat.{ℕ, suc, _+_, _≤_, _<_}
@@ -133,7 +133,8 @@ module _ (m : Firmware) (rows : List Row) (schedule : List ℕ) where
   swaps k = swapCount m rows k 0 schedule (m .start)
 
   -- An operation that has ended: it has one answer row (R246), and stands in the log once with the same answer unless it was told fail (R247). Told
-  -- of a successful swap (true), it swapped exactly once; told anything else, it never swapped; and whatever bytes were to follow, that would be so (R248)
+  -- of a successful swap, by true or by the value before, it swapped exactly once; told anything else, it never swapped; and whatever bytes were to
+  -- follow, that would be so (R248)
   pub record Told (k : ℕ) (log answers : List Entry) : Type 0 where
     pub answer : Maybe
     pub answered : Once (ownerOf rows k) k answer answers
@@ -141,8 +142,8 @@ module _ (m : Firmware) (rows : List Row) (schedule : List ℕ) where
     pub swapped : (more : List ℕ) → swapsWith k more ≡ swapsTold answer
 
   -- One that has begun and not ended: it has no answer row (R249), and stands in the log once if it has swapped or has stored its answer, and otherwise
-  -- not (R250): with what a swap of its kind says over some value, which is true, if it swapped (and `replayed` has the value that the word has there),
-  -- with the stored answer if stored
+  -- not (R250): with what a swap of its kind says over some value, if it swapped, that is true, or that value (by `replayed` it is the one that the word
+  -- has there); with the stored answer if stored
   pub record Untold (k : ℕ) (log answers : List Entry) : Type 0 where
     pub unanswered : of k answers ≡ []
     pub at-most-once : swaps k ≤ 1

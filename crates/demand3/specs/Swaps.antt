@@ -173,8 +173,7 @@ logged-swapped rows start p k (Is a) log r h e =
     (v, record { entry = h .entry; once = h .once; process = h .process; says-so = own ∙ answer-says (rowNumbered rows k) v swap })
 
 -- no answer stored, and no swap
-pub logged-not : (says : Answer) → isSwapped (spoken (Is says)) ≡ true → (p k : ℕ) (c m : Bool) (log : List Entry) → Logged p k (due says None c m) log → swapsTold (due says None c m) ≡ 0 → of k log ≡ []
+pub logged-not : (says : Answer) → isSwapped (spoken (Is says)) ≡ true → (p k : ℕ) (has : Bool) (log : List Entry) → Logged p k (due says None has) log → swapsTold (due says None has) ≡ 0 → of k log ≡ []
 unfolding due swapsTold
-logged-not says t p k true true log h e = absurd (let z : counts true ≡ 0 = rw t at e in omega arith)
-logged-not says t p k true false log h e = h
-logged-not says t p k false m log h e = h
+logged-not says t p k true log h e = absurd (let z : counts true ≡ 0 = rw t at e in omega arith)
+logged-not says t p k false log h e = h

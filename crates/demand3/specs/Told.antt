@@ -14,6 +14,7 @@ use Rattle.runfile.specs.Operations.{rowNumbered, first, count}
 use Rattle.runfile.specs.Kinds.{kindOf}
 use Rattle.word.specs.Word.{value}
 use Rattle.rows.specs.declared.Entry.{Entry}
+use Rattle.machine.specs.declared.Answer.{Answer}
 use Rattle.machine.specs.declared.Maybe.{Maybe}
 use Rattle.machine.specs.declared.Maybe.the-variants.{None}
 use Rattle.machine.specs.declared.Opened.the-variants.{Open}
@@ -23,7 +24,7 @@ use Rattle.machine.specs.KindLaws.{says-swapped}
 use Rattle.demand3.specs.Statement.{Firmware, of, Logged, Before, ownerOf, Begun, StillOpen, Ended, through, swapCount, swapsTold, Told, Untold, Unbegun}
 use Rattle.demand3.specs.FlipBit.{flipBit, through-after}
 use Rattle.demand3.specs.Invariant as invariant
-use Rattle.demand3.specs.Invariant.{due, matches, says, IsOpen, Local}
+use Rattle.demand3.specs.Invariant.{due, says, hasSwapped, owed, IsOpen, Local}
 use Rattle.demand3.specs.Plans.{Plan, Covered, covered}
 use Rattle.demand3.specs.Preserve.{inv-begin}
 use Rattle.demand3.specs.Past.{Passed, kept-after}
@@ -110,17 +111,18 @@ module _ (rows : List Row) (words : List ℕ) (P : ℕ) (plan : Plan P (length w
       unfolding due
       untold o =
           let h : IsOpen rows (map value words) p k s (procAt p s) = local schedule .opened k o in
-          let owed : Maybe = due (says rows (map value words) k) (procAt p s .stored) (procAt p s .checkpoint) (matches rows (map value words) p k (s .words) (procAt p s .kept)) in
-          let n : swapCount m rows k 0 schedule (begin P words) ≡ swapsTold owed = counted schedule k ∙ logged-count p k owed (s .log) (h .stands) in
+          let said : Answer = says rows (map value words) k (procAt p s .kept) in
+          let has : Bool = hasSwapped rows (map value words) p k (s .words) (procAt p s) in
+          let d : Maybe = owed rows (map value words) p k (s .words) (procAt p s) in
+          let n : swapCount m rows k 0 schedule (begin P words) ≡ swapsTold d = counted schedule k ∙ logged-count p k d (s .log) (h .stands) in
           record {
             unanswered = h .unanswered;
-            at-most-once = subst (λ n. n ≤ 1) (sym n) (told-once owed);
-            has-swapped = λ e. logged-swapped rows (map value words) p k owed (s .log) (inv rows words P plan schedule .global .right) (h .stands) (sym n ∙ e);
-            has-stored = λ a e. subst (λ d. Logged p k (due (says rows (map value words) k) d (procAt p s .checkpoint) (matches rows (map value words) p k (s .words) (procAt p s .kept))) (s .log)) (stored-there e) (h .stands);
+            at-most-once = subst (λ n. n ≤ 1) (sym n) (told-once d);
+            has-swapped = λ e. logged-swapped rows (map value words) p k d (s .log) (inv rows words P plan schedule .global .right) (h .stands) (sym n ∙ e);
+            has-stored = λ a e. subst (λ d. Logged p k (due said d has) (s .log)) (stored-there e) (h .stands);
             neither = λ z e.
-                let none : owed ≡ due (says rows (map value words) k) None (procAt p s .checkpoint) (matches rows (map value words) p k (s .words) (procAt p s .kept)) =
-                ap (λ d. due (says rows (map value words) k) d (procAt p s .checkpoint) (matches rows (map value words) p k (s .words) (procAt p s .kept))) (stored-there e) in
-                logged-not (says rows (map value words) k) (says-swapped (kindOf (rowNumbered rows k)) (rowNumbered rows k .old)) p k (procAt p s .checkpoint) (matches rows (map value words) p k (s .words) (procAt p s .kept)) (s .log)
+                let none : d ≡ due said None has = ap (λ d. due said d has) (stored-there e) in
+                logged-not said (says-swapped (kindOf (rowNumbered rows k)) (procAt p s .kept .value)) p k has (s .log)
                 (subst (λ d. Logged p k d (s .log)) none (h .stands)) (ap swapsTold (sym none) ∙ sym n ∙ z);
           }
 

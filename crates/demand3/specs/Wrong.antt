@@ -1,4 +1,4 @@
--- Four wrong machines, held against demand 3, which is said of each one's own states. Each differs from the bench machine in one rule, and each
+-- Five wrong machines, held against demand 3, which is said of each one's own states. Each differs from the bench machine in one rule, and each
 -- has a short run that breaks the statement, by computation: so it is not a statement that any machine would meet.
 use Prim.Native.Nat.{ℕ, _+_, _<_}
 use mathlib.Core.Path.{_≡_, refl, sym, _∙_, ap, subst}
@@ -9,6 +9,7 @@ use lib.Dec.{eqb}
 use lib.ListN.{getD, replicate}
 use Rattle.runfile.specs.declared.Row.{Row}
 use Rattle.runfile.specs.Operations.{rowNumbered, first, count, names}
+use Rattle.runfile.specs.Kinds.{kindOf}
 use Rattle.runfile.specs.Actions.{Action, step as steps, crash as crashes, wake as wakes, crashAll as crashesAll, none as idles, action, named}
 use Rattle.rows.specs.declared.Entry.{Entry}
 use Rattle.word.specs.Word.{value, valueIn, bitIn, swappedIn, bitOf, turnOf, flipsIn}
@@ -19,13 +20,13 @@ use Rattle.machine.specs.declared.Maybe.{Maybe}
 use Rattle.machine.specs.declared.Maybe.the-variants.{None, Is}
 use Rattle.machine.specs.declared.Opened.the-variants.{Closed}
 use Rattle.machine.specs.declared.Process.{Process}
-use Rattle.machine.specs.declared.Stage.the-variants.{A1, V4, V6}
+use Rattle.machine.specs.declared.Stage.the-variants.{A1, V4, V5, V6}
 use Rattle.machine.specs.declared.Status.{Status}
 use Rattle.machine.specs.declared.Status.the-variants.{Down, Idle, N2, N3, Busy}
 use Rattle.machine.specs.Turn.{Turn, Still, Quiet, Swaps, Logs, Loses, Replies}
 use Rattle.machine.specs.Stages.{stageNumber}
-use Rattle.machine.specs.Records.{with-status, with-checkpoint, started, rowOpen}
-use Rattle.machine.specs.Steps.{spoken, triedIn, storingIn, decideIn, stepTurn, stepTurnIn}
+use Rattle.machine.specs.Records.{with-status, with-checkpoint, with-stored, started, rowOpen}
+use Rattle.machine.specs.Steps.{spoken, swapSays, triedIn, storingIn, decideIn, stepTurn, stepTurnIn}
 use Rattle.machine.specs.Machine.{State, Move, moveOf, applied, apply, procAt, turnIn, actIn, step, stepIn, after, afterIn, begin}
 use Rattle.replay.specs.Plain.{answerOf, leaves}
 use Rattle.demand3.specs.Statement.{Firmware, of, Once, Logged, ownerOf, through, Ended, stateAfter, endState, Meets}
@@ -238,3 +239,70 @@ closed-then = refl
 pub read-breaks : Meets reading readRows readSchedule → ⊥
 unfolding read readRows rowNumbered
 read-breaks d = closed-open (sym closed-then ∙ d .log-times 0 (omega arith) (record { position = 0; process = 0; row = 0; verdict = 3; value = 7 }) logged-first .open-then)
+
+-- 5. Recovery that takes the value before from the word as it stands, in place of the value that A2 kept (R124)
+pub rereading : Row → ℕ → Process → Status → Turn → Turn
+rereading row now r Down u = u
+rereading row now r Idle u = u
+rereading row now r N2 u = u
+rereading row now r N3 u = u
+rereading row now r (Busy stage seen readAt triedAt answer) u =
+    cond (eqb (stageNumber stage) 9) (Quiet (with-stored (Busy V5 seen readAt triedAt answer) (Is (swapSays (kindOf row) (value now))) r)) u
+
+pub asItStands : Row → (now next : ℕ) → Process → Turn → Turn
+asItStands row now next r u = rereading row now r (r .status) u
+
+-- a row that advances word 0
+pub advance : (process amount : ℕ) → Row
+advance p amount = record { process = p; kind = 2; word = 0; old = 0; new = amount }
+
+-- two workers move a mark on from 7, worker 0 by 5 and worker 1 by 3; worker 0 is cut off right after its move, and worker 1 moves the mark on
+pub markRows : List Row
+markRows = advance 0 5 ∷ advance 1 3 ∷ []
+
+pub markSchedule : List ℕ
+markSchedule = replicate 7 0x00 ++ (0x10 ∷ (replicate 9 0x01 ++ (0x20 ∷ replicate 5 0x00)))
+
+abbrev pub rereads : Firmware
+rereads = wrong asItStands markRows 2 (7 ∷ [])
+
+pub marked : State
+marked = endState rereads markSchedule
+
+-- it has ended worker 0's row and told it 15, and has 7 in its log
+told-late : of 0 (marked .answers) ≡ record { position = 22; process = 0; row = 0; verdict = 4; value = 15 } ∷ []
+unfolding marked markRows markSchedule advance asItStands rereading turnBy actBy stepBy through of rowNumbered first count valueIn bitIn swappedIn bitOf turnOf flipsIn isSwapped onePast place insert spoken triedIn storingIn decideIn stepTurnIn applied apply procAt turnIn actIn stepIn afterIn begin
+told-late = refl
+
+logged-before : of 0 (marked .log) ≡ record { position = 6; process = 0; row = 0; verdict = 4; value = 7 } ∷ []
+unfolding marked markRows markSchedule advance asItStands rereading turnBy actBy stepBy through of rowNumbered first count valueIn bitIn swappedIn bitOf turnOf flipsIn isSwapped onePast place insert spoken triedIn storingIn decideIn stepTurnIn applied apply procAt turnIn actIn stepIn afterIn begin
+logged-before = refl
+
+mark-begun : first markRows 0 + procAt 0 marked .begun ≡ 1
+unfolding marked markRows markSchedule advance asItStands rereading turnBy actBy stepBy through of rowNumbered first count valueIn bitIn swappedIn bitOf turnOf flipsIn isSwapped onePast place insert spoken triedIn storingIn decideIn stepTurnIn applied apply procAt turnIn actIn stepIn afterIn begin
+mark-begun = refl
+
+mark-shut : procAt 0 marked .opened ≡ Closed
+unfolding marked markRows markSchedule advance asItStands rereading turnBy actBy stepBy through of rowNumbered first count valueIn bitIn swappedIn bitOf turnOf flipsIn isSwapped onePast place insert spoken triedIn storingIn decideIn stepTurnIn applied apply procAt turnIn actIn stepIn afterIn begin
+mark-shut = refl
+
+mark-ended : Ended rereads markRows 0 marked
+unfolding markRows advance rowNumbered
+mark-ended = record { begun = subst (λ n. 0 < n) (sym mark-begun) (omega arith); shut = λ o. closed-open (sym mark-shut ∙ o) }
+
+-- whatever was told, by a machine that has something else of it in its log
+told-other : (p k : ℕ) (e f : Entry) (log answers : List Entry) → of k answers ≡ e ∷ [] → of k log ≡ f ∷ [] → (e .value ≡ f .value → ⊥) → (m : Maybe) → Once p k m answers → Logged p k m log → ⊥
+told-other p k e f log answers told stood ne None a l = let same : f ∷ [] ≡ [] = sym stood ∙ l in let z : _≡_ {A = ℕ} 0 1 = cc in omega arith
+told-other p k e f log answers told stood ne (Is x) a l =
+    let there : e ∷ [] ≡ a .entry ∷ [] = sym told ∙ a .once in
+    let here : f ∷ [] ≡ l .entry ∷ [] = sym stood ∙ l .once in
+    let left : e .value ≡ a .entry .value = cc in
+    let right : f .value ≡ l .entry .value = cc in
+    ne (left ∙ ap (λ d. d .value) (a .says-so ∙ sym (l .says-so)) ∙ sym right)
+
+pub mark-breaks : Meets rereads markRows markSchedule → ⊥
+unfolding marked markRows
+mark-breaks d =
+    let t = d .ended 0 (omega arith) mark-ended in
+    told-other (ownerOf markRows 0) 0 (record { position = 22; process = 0; row = 0; verdict = 4; value = 15 }) (record { position = 6; process = 0; row = 0; verdict = 4; value = 7 }) (marked .log) (marked .answers)
+    told-late logged-before (λ e. omega arith) (t .answer) (t .answered) (t .logged)

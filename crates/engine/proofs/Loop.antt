@@ -15,8 +15,9 @@ use Rattle.runfile.specs.declared.Row.{Row}
 use Rattle.runfile.specs.Actions.{Action, step as steps, crash as crashes, wake as wakes, crashAll as crashesAll, action, named}
 use Rattle.runfile.specs.Lawful.{LawfulByte, of-one, of-all}
 use Rattle.runfile.specs.Operations.{rowNumbered, first, count}
-use Rattle.runfile.specs.Kinds.{kindOf, new-put}
-use Rattle.word.specs.Word.{value, bit, swapped}
+use Rattle.runfile.specs.declared.Kind.{Kind}
+use Rattle.runfile.specs.Kinds.{kindOf, newByIn}
+use Rattle.word.specs.Word.{width, value, bit, swapped}
 use Rattle.rows.specs.declared.Entry.{Entry}
 use Rattle.rows.specs.Log.{insert}
 use Rattle.rows.specs.Buffers.{rowsOf, flat, infront}
@@ -25,7 +26,9 @@ use Rattle.rows.specs.BufferLaws.{length-rowsOf, length-snoc, rows-back, rows-s
 use Rattle.machine.specs.declared.Process.{Process}
 use Rattle.machine.specs.declared.Stage.{Stage}
 use Rattle.machine.specs.declared.Stage.the-variants.{A3, A4, A5, A6, V1, V3, V4, V5, V6}
-use Rattle.machine.specs.declared.Answer.the-variants.{False, True, Value}
+use Rattle.machine.specs.declared.Kept.{Kept}
+use Rattle.machine.specs.declared.Answer.{Answer}
+use Rattle.machine.specs.declared.Answer.the-variants.{False, True, Value, Was}
 use Rattle.machine.specs.declared.Maybe.{Maybe}
 use Rattle.machine.specs.declared.Maybe.the-variants.{None, Is}
 use Rattle.machine.specs.declared.Status.{Status}
@@ -36,8 +39,7 @@ use Rattle.machine.specs.declared.Work.{Work}
 use Rattle.machine.specs.Turn.{Turn, Still, Quiet, Swaps, Logs, Loses, Replies}
 use Rattle.machine.specs.Stages.{stageNumber, stageAt, stage-of, numbered}
 use Rattle.machine.specs.Records.{fresh, nobody, with-status, with-kept, with-checkpoint, with-stored, closed, started, crashed, downTo, wokenUp, waked, rowOpen, WorkOpen}
-use Rattle.machine.specs.Steps.{entry, afterRead, triedIn, storing, storingIn, recovered, sameBit, decide, decideIn, stepTurn, stepTurnIn, working}
-use Rattle.machine.specs.KindLaws.{says-true, loss-false}
+use Rattle.machine.specs.Steps.{entry, afterRead, keptBy, swapSays, lostBy, triedIn, storing, storingIn, recovered, sameBit, decide, decideIn, stepTurn, stepTurnIn, working}
 use Rattle.machine.specs.Machine.{State, Effect, quiet, swaps, logs, replies, processOf, effectOf, turn, turnIn, wordsAfter, logAfter, answersAfter, apply, applied, procAt, act, actIn, step, stepIn, after, afterIn}
 use Rattle.machine.specs.Laws.{after-snoc, getD-either, Sane, sane-idle, sane-after}
 use Rattle.machine.specs.Promises.{entered, Enters, replyAt}
@@ -363,10 +365,10 @@ module _ {rows : List Row} {P : ℕ} {from : Standing} {bytes words₀ log₀ an
       pub hold-record : (next : Process) → u ≡ Quiet next → Holding rows P from bytes words₀ log₀ answers₀ (i + 1) words log answers (set ps at next) m k
       hold-record next e = by-set quiet next (told (Quiet next) e) (did-quiet (q .log-room) (q .answers-room))
 
-      pub hold-won : (next : Process) (x : ℕ) (e : Entry) (words′ log′ : List ℕ) → u ≡ Swaps next x True → e ≡ entry t me K (Is True) → words′ ≡ set words (row .word) x
+      pub hold-won : (next : Process) (x : ℕ) (says : Answer) (e : Entry) (words′ log′ : List ℕ) → u ≡ Swaps next x says → e ≡ entry t me K (Is says) → words′ ≡ set words (row .word) x
           → length log′ ≡ length log → log′ ≡ infront (flat (insert e (rowsOf m log))) log → Holding rows P from bytes words₀ log₀ answers₀ (i + 1) words′ log′ answers (set ps at next) (m + 1) k
-      hold-won next x e words′ log′ w en wrote kept put =
-          by-set (swaps (row .word) x e) next (told (Swaps next x True) w ∙ ap (λ e. apply (swaps (row .word) x e) (set (S .processes) me next) S) (sym en))
+      hold-won next x says e words′ log′ w en wrote kept put =
+          by-set (swaps (row .word) x e) next (told (Swaps next x says) w ∙ ap (λ e. apply (swaps (row .word) x e) (set (S .processes) me next) S) (sym en))
           (did-log (q .log-room) (q .answers-room) (swaps (row .word) x e) words′ log′ (m + 1) wrote (λ l. refl) kept (sym (length-insert e (rowsOf m log) ∙ ap (λ n. n + 1) (length-rowsOf m log))) put)
 
       pub hold-answer : (next : Process) (said : Maybe) (e : Entry) (answers′ : List ℕ) → u ≡ Replies next said → e ≡ entry t me K said
@@ -389,6 +391,7 @@ module _ {rows : List Row} {P : ℕ} {from : Standing} {bytes words₀ log₀ an
               ≡ logAfter (effectOf rows (rowsOf m log) me 0 K (row .word) (storing row nobody (w .seen) (w .«read_at») (w .«tried_at») a)) (rowsOf m log)
           go None = refl
           go (Is True) = refl
+          go (Is (Was v)) = refl
           go (Is (Value v)) = refl
           go (Is False) = lost (eqb (value (w .seen)) (row .old))
 
@@ -407,6 +410,7 @@ module _ {rows : List Row} {P : ℕ} {from : Standing} {bytes words₀ log₀ an
               (wordsAfter e words ≡ words) × ((l : List Entry) → answersAfter e l ≡ l) × (processOf r v ≡ x))
           go None = (refl, (λ l. refl), refl)
           go (Is True) = (refl, (λ l. refl), refl)
+          go (Is (Was v)) = (refl, (λ l. refl), refl)
           go (Is (Value v)) = (refl, (λ l. refl), refl)
           go (Is False) = lost (eqb (value (w .seen)) (row .old))
 
@@ -459,24 +463,30 @@ module _ {rows : List Row} {P : ℕ} {from : Standing} {bytes words₀ log₀ an
         unfolding decideIn
         at-A1 e found now next f n s = decided-at 0 e ∙ ap (λ st. Quiet (with-status st r)) (sym (s ∙ ap₂ (λ row now. afterRead row now t) f n))
 
-        pub at-A2 : number ≡ 1 → (b : Bool) (next : Status) → b ≡ bit me seen → next ≡ Busy A3 seen ra ta answer → u ≡ Quiet (with-kept next (not b) r)
+        -- what goes by the kind is looked up with the kind of the row, and with what A1 read
+        pub at-A2 : number ≡ 1 → (kind : Kind) → kind ≡ kindOf row → (b : Bool) (v : ℕ) → b ≡ bit me seen → v ≡ value seen → (kept : Kept) → kept ≡ keptBy kind (r .kept) (not b) v → (next : Status) → next ≡ Busy A3 seen ra ta answer
+            → u ≡ Quiet (with-kept next kept r)
         unfolding decideIn
-        at-A2 e b next f s = decided-at 1 e ∙ ap₂ (λ st b. Quiet (with-kept st (not b) r)) (sym s) (sym f)
+        at-A2 e kind is b v f g kept k next s =
+            decided-at 1 e ∙ ap₂ (λ st kept. Quiet (with-kept st kept r)) (sym s)
+            (sym (k ∙ ap (λ kind. keptBy kind (r .kept) (not b) v) is ∙ ap₂ (λ b v. keptBy (kindOf row) (r .kept) (not b) v) f g))
 
         pub at-A3 : number ≡ 2 → (next : Status) → next ≡ Busy A4 seen ra ta answer → u ≡ Quiet (with-checkpoint next true r)
         unfolding decideIn
         at-A3 e next s = decided-at 2 e ∙ ap (λ st. Quiet (with-checkpoint st true r)) (sym s)
 
-        pub at-won : number ≡ 3 → (now : ℕ) → now ≡ seenNow → now ≡ seen → (next : Status) → next ≡ Busy A5 seen ra t (Is True) → (found : Row) → found ≡ row → (x : ℕ) → x ≡ swapped me (found .new) seen
-            → u ≡ Swaps (with-status next r) x True
+        pub at-won : number ≡ 3 → (now : ℕ) → now ≡ seenNow → now ≡ seen → (kind : Kind) → kind ≡ kindOf row → (v : ℕ) → v ≡ value seen → (says : Answer) → says ≡ swapSays kind v
+            → (next : Status) → next ≡ Busy A5 seen ra t (Is says) → (found : Row) → found ≡ row → (mark : ℕ) → mark ≡ newByIn width kind (found .new) v → (x : ℕ) → x ≡ swapped me mark seen
+            → u ≡ Swaps (with-status next r) x says
         unfolding decideIn triedIn
-        at-won e now n same next s found f x y =
-            decided-at 3 e ∙ rw (eq-eqb seenNow seen (sym n ∙ same), says-true (kindOf row) (value seen), new-put (kindOf row) (row .new) (value seen))
-            (ap₂ (λ st x. Swaps (with-status st r) x True) (sym s) (sym (y ∙ ap (λ (row : Row). swapped me (row .new) seen) f)))
+        at-won e now n same kind is v g says a next s found f mark m x y =
+            let said : says ≡ swapSays (kindOf row) (value seen) = a ∙ ap₂ swapSays is g in
+            let put : mark ≡ newByIn width (kindOf row) (row .new) (value seen) = m ∙ ap₂ (λ (kind : Kind) (v : ℕ). newByIn width kind (found .new) v) is g ∙ ap (λ (row′ : Row). newByIn width (kindOf row) (row′ .new) (value seen)) f in
+            decided-at 3 e ∙ rw (eq-eqb seenNow seen (sym n ∙ same), ← said, ← put) (ap₂ (λ st x. Swaps (with-status st r) x says) (sym s) (sym y))
 
-        pub at-lost : number ≡ 3 → (now : ℕ) → now ≡ seenNow → (now ≡ seen → ⊥) → (next : Status) → next ≡ Busy A5 seen ra t (Is False) → u ≡ Quiet (with-status next r)
+        pub at-lost : number ≡ 3 → (now : ℕ) → now ≡ seenNow → (now ≡ seen → ⊥) → (kind : Kind) → kind ≡ kindOf row → (next : Status) → next ≡ lostBy kind seen ra t → u ≡ Quiet (with-status next r)
         unfolding decideIn triedIn
-        at-lost e now n differ next s = decided-at 3 e ∙ rw (ne-eqb seenNow seen (λ z. differ (n ∙ z)), loss-false (kindOf row) seen ra t) (ap (λ st. Quiet (with-status st r)) (sym s))
+        at-lost e now n differ kind is next s = decided-at 3 e ∙ rw (ne-eqb seenNow seen (λ z. differ (n ∙ z))) (ap (λ st. Quiet (with-status st r)) (sym (s ∙ ap (λ kind. lostBy kind seen ra t) is)))
 
         pub at-A5 : number ≡ 4 → (next : Status) → next ≡ Busy A6 seen ra ta answer → u ≡ storing row (with-stored next answer r) seen ra ta answer
         unfolding decideIn
@@ -490,15 +500,16 @@ module _ {rows : List Row} {P : ℕ} {from : Standing} {bytes words₀ log₀ an
         unfolding decideIn
         at-V2 e to g next s = decided-at 7 e ∙ ap (λ st. Quiet (with-status st r)) (sym (s ∙ ap (λ to. Busy to seen ra ta answer) g))
 
-        pub at-V3 : number ≡ 8 → (now : ℕ) → now ≡ seenNow → (to : Stage) → to ≡ cond (sameBit (bit me now) (r .kept)) V4 V6 → (next : Status) → next ≡ Busy to now ra ta answer → u ≡ Quiet (with-status next r)
+        pub at-V3 : number ≡ 8 → (now : ℕ) → now ≡ seenNow → (to : Stage) → to ≡ cond (sameBit (bit me now) (r .kept .bit)) V4 V6 → (next : Status) → next ≡ Busy to now ra ta answer → u ≡ Quiet (with-status next r)
         unfolding decideIn
         at-V3 e now n to g next s =
             decided-at 8 e ∙ ap (λ st. Quiet (with-status st r))
-            (sym (s ∙ ap₂ (λ to now. Busy to now ra ta answer) (g ∙ ap (λ now. cond (sameBit (bit me now) (r .kept)) V4 V6) n) n))
+            (sym (s ∙ ap₂ (λ to now. Busy to now ra ta answer) (g ∙ ap (λ now. cond (sameBit (bit me now) (r .kept .bit)) V4 V6) n) n))
 
-        pub at-V4 : number ≡ 9 → (next : Status) → next ≡ Busy V5 seen ra ta answer → u ≡ Quiet (with-stored next (Is True) r)
+        pub at-V4 : number ≡ 9 → (kind : Kind) → kind ≡ kindOf row → (says : Answer) → says ≡ swapSays kind (r .kept .value) → (next : Status) → next ≡ Busy V5 seen ra ta answer → u ≡ Quiet (with-stored next (Is says) r)
         unfolding decideIn
-        at-V4 e next s = decided-at 9 e ∙ ap₂ (λ st a. Quiet (with-stored st (Is a) r)) (sym s) (says-true (kindOf row) (row .old))
+        at-V4 e kind is says a next s =
+            decided-at 9 e ∙ ap₂ (λ st a. Quiet (with-stored st (Is a) r)) (sym s) (sym (a ∙ ap (λ kind. swapSays kind (r .kept .value)) is))
 
         -- A6, V5 and V6
         pub at-reply : number ≢ 0 → number ≢ 1 → number ≢ 2 → number ≢ 3 → number ≢ 4 → number ≢ 6 → number ≢ 7 → number ≢ 8 → number ≢ 9 → (said : Maybe) → said ≡ replyAt number answer (r .stored)

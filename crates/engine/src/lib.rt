@@ -1,13 +1,13 @@
 // The engine: a part of a schedule, run over lent buffers. Schedules are run here and nowhere else: each byte as R70 to
 // R173 say, with the small functions of the crate `machine` and, for the log, of `rows`. The whole run is all of the
 // schedule from position 0 and fresh records on (R181); a key of the panel is a part of one byte (R202).
-use machine::Answer;
 use machine::Maybe;
 use machine::Opened;
 use machine::Process;
 use machine::Stage;
 use machine::Status;
 use machine::Work;
+use machine::after_loss;
 use machine::after_read;
 use machine::busy;
 use machine::by_bit;
@@ -15,12 +15,15 @@ use machine::by_checkpoint;
 use machine::crash_first;
 use machine::enter;
 use machine::entry_of;
+use machine::keep;
 use machine::open_row;
+use machine::put_in;
 use machine::recovered_of;
 use machine::reply_of;
 use machine::stage_number;
 use machine::start;
 use machine::store_word;
+use machine::swap_says;
 use machine::word_now;
 ghost use Rattle.engine.specs.Part.{Runnable, Runs};
 
@@ -130,7 +133,10 @@ pub fn run_bytes(
                             // A2 (R112).
                             1 => {
                                 let status = busy(Stage::A3, seen, read_at, tried_at, answer);
-                                let kept = !word::bit_of(me as u32, seen);
+                                let operation = runfile::row_at(table, stride, k);
+                                let kind = runfile::kind_of(operation);
+                                let turned = !word::bit_of(me as u32, seen);
+                                let kept = keep(kind, process.kept, turned, word::value_of(seen));
                                 processes[at] = Process {
                                     status,
                                     kept,
@@ -148,20 +154,22 @@ pub fn run_bytes(
                             }
                             // A4: the swap, with its log row, or lost (R114, R164).
                             3 => {
+                                let operation = runfile::row_at(table, stride, k);
+                                let kind = runfile::kind_of(operation);
                                 let now = word_now(table, stride, k, words);
                                 if now == seen {
-                                    let yes = Maybe::Is(Answer::True);
+                                    let found = word::value_of(seen);
+                                    let yes = Maybe::Is(swap_says(kind, found));
                                     let status = busy(Stage::A5, seen, read_at, position, yes);
                                     processes[at] = Process { status, ..process };
-                                    let operation = runfile::row_at(table, stride, k);
-                                    let new = word::swapped_of(me as u32, operation.new, seen);
+                                    let mark = put_in(kind, operation.new, found);
+                                    let new = word::swapped_of(me as u32, mark, seen);
                                     store_word(table, stride, k, words, new);
                                     let won = entry_of(position as u32, me, row, yes);
                                     rows::insert_row(log, log_rows, won);
                                     log_rows += 1;
                                 } else {
-                                    let no = Maybe::Is(Answer::False);
-                                    let status = busy(Stage::A5, seen, read_at, position, no);
+                                    let status = after_loss(kind, seen, read_at, position);
                                     processes[at] = Process { status, ..process };
                                 }
                             }
@@ -199,14 +207,18 @@ pub fn run_bytes(
                             // V3 (R123).
                             8 => {
                                 let now = word_now(table, stride, k, words);
-                                let next = by_bit(me, now, process.kept);
+                                let kept = process.kept;
+                                let next = by_bit(me, now, kept.bit);
                                 let status = busy(next, now, read_at, tried_at, answer);
                                 processes[at] = Process { status, ..process };
                             }
                             // V4 (R124).
                             9 => {
                                 let status = busy(Stage::V5, seen, read_at, tried_at, answer);
-                                let stored = Maybe::Is(Answer::True);
+                                let operation = runfile::row_at(table, stride, k);
+                                let kind = runfile::kind_of(operation);
+                                let kept = process.kept;
+                                let stored = Maybe::Is(swap_says(kind, kept.value));
                                 processes[at] = Process {
                                     status,
                                     stored,
@@ -268,9 +280,10 @@ pub fn run_bytes(
             }
         }
     }
+    let reached = from_position + schedule.len();
     Standing {
         processes,
-        position: from_position + schedule.len(),
+        position: reached,
         log: log_rows,
         answers: answer_rows,
     }

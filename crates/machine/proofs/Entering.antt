@@ -14,7 +14,7 @@ use Rattle.rows.specs.LogLaws.{length-insert}
 use Rattle.rows.specs.Buffers.{rowsOf, flat, infront}
 use Rattle.rows.specs.BufferLaws.{length-rowsOf, rows-same}
 use Rattle.machine.specs.declared.Answer.{Answer}
-use Rattle.machine.specs.declared.Answer.the-variants.{False, True, Value}
+use Rattle.machine.specs.declared.Answer.the-variants.{False, True, Value, Was}
 use Rattle.machine.specs.declared.Maybe.{Maybe}
 use Rattle.machine.specs.declared.Maybe.the-variants.{None, Is}
 use Rattle.machine.specs.Turn.{Loses, Logs}
@@ -70,6 +70,10 @@ module _ (rows : List Row) (row : Row) (log : List ℕ) (m : ℕ) (w : Work) whe
   pub enter-true : m * 5 ≤ length log → w .answer ≡ Is True → Enters rows row log m w m log
   unfolding after-as storingIn
   enter-true room e = stays room (is-as (Is True) e)
+
+  pub enter-was : m * 5 ≤ length log → (v : ℕ) → w .answer ≡ Is (Was v) → Enters rows row log m w m log
+  unfolding after-as storingIn
+  enter-was room v e = stays room (is-as (Is (Was v)) e)
 
   pub enter-value : (said : Answer) → w .answer ≡ Is said → (v : ℕ) → said ≡ Value v → (e : Entry) (log′ : List ℕ) → e ≡ entry (w .«read_at») (w .process) (w .row) (Is said)
       → log′ ≡ infront (flat (insert e (rowsOf m log))) log → Enters rows row log m w (m + 1) log′

@@ -11,7 +11,7 @@ use lib.ListN.{length, getD, set, take, drop, take-append-drop, length-set, leng
 use lib.Seq.{getD-set-same, getD-set-other, set-out}
 use borrow.Author.Tests.{eqb-true, eqb-false, eq-eqb, ne-eqb, ltb-true, ltb-false}
 use Rattle.runfile.specs.declared.Row.{Row}
-use Rattle.runfile.specs.Kinds.{kindOf, newOf}
+use Rattle.runfile.specs.Kinds.{kindOf, newIn, newOf}
 use Rattle.runfile.specs.Actions.{Action, step as steps, crash as crashes, wake as wakes, crashAll as crashesAll, none as idles, action, named}
 use Rattle.runfile.specs.Operations.{rowNumbered, first, count}
 use Rattle.word.specs.Word.{width, value, bit, swapped}
@@ -23,7 +23,7 @@ use Rattle.machine.specs.declared.Process.{Process}
 use Rattle.machine.specs.declared.Stage.{Stage}
 use Rattle.machine.specs.declared.Stage.the-variants.{A1, A2, A3, A4, A5, A6, V1, V2, V3, V4, V5, V6}
 use Rattle.machine.specs.declared.Answer.{Answer}
-use Rattle.machine.specs.declared.Answer.the-variants.{False, True, Value}
+use Rattle.machine.specs.declared.Answer.the-variants.{False}
 use Rattle.machine.specs.declared.Maybe.{Maybe}
 use Rattle.machine.specs.declared.Maybe.the-variants.{None, Is}
 use Rattle.machine.specs.declared.Opened.{Opened}
@@ -31,9 +31,9 @@ use Rattle.machine.specs.declared.Opened.the-variants.{Closed, Open}
 use Rattle.machine.specs.declared.Status.{Status}
 use Rattle.machine.specs.declared.Status.the-variants.{Down, Idle, N2, N3, Busy}
 use Rattle.machine.specs.Records.{fresh, with-stored, rowOpen}
-use Rattle.machine.specs.Turn.{Turn, Still, Quiet, Swaps, Logs, Loses}
-use Rattle.machine.specs.Steps.{spoken, entry, tried, storing, decide, atWork, stepTurn, triedIn, storingIn, decideIn, stepTurnIn}
-use Rattle.machine.specs.KindLaws.{either, says-swapped}
+use Rattle.machine.specs.Turn.{Turn, Still, Quiet, Swaps}
+use Rattle.machine.specs.Steps.{spoken, entry, decide, atWork, stepTurn, triedIn, decideIn, stepTurnIn}
+use Rattle.machine.specs.KindLaws.{either, says-swapped, stored-leads}
 use Rattle.machine.specs.Machine.{State, effectOf, wordsAfter, logAfter, turn, apply, applied, procAt, act, step, after, begin, turnIn, actIn, stepIn, afterIn}
 use Rattle.machine.specs.Laws.{closed-open}
 use Rattle.machine.specs.Limits.{size}
@@ -67,18 +67,15 @@ module _ (rows : List Row) (p t : ℕ) (words : List ℕ) (log : List Entry) (r 
 
   at-work : (k : ℕ) → r .opened ≡ Open k → (stage : Stage) (seen readAt triedAt : ℕ) (answer : Maybe)
       → Left k (decide (rowNumbered rows k) p t (getD words (rowNumbered rows k .word) 0) r stage seen readAt triedAt answer)
-  unfolding decideIn storingIn triedIn isSwapped spoken
+  unfolding decideIn triedIn isSwapped spoken
   at-work k o A1 seen readAt triedAt answer = as-they-were
   at-work k o A2 seen readAt triedAt answer = as-they-were
   at-work k o A3 seen readAt triedAt answer = as-they-were
   at-work k o A4 seen readAt triedAt answer =
       tries k o seen _ _ _ (says-swapped (kindOf (rowNumbered rows k)) (value seen)) (eqb (getD words (rowNumbered rows k .word) 0) seen) refl
-  at-work k o A5 seen readAt triedAt None = as-they-were
-  at-work k o A5 seen readAt triedAt (Is True) = as-they-were
-  at-work k o A5 seen readAt triedAt (Is (Value v)) = one-logged (entry readAt p k (Is (Value v))) refl
-  at-work k o A5 seen readAt triedAt (Is False) =
-      either (Left k) (eqb (value seen) (rowNumbered rows k .old)) (Loses _ readAt triedAt) (Logs _ readAt False)
-      (one-logged (entry (firstSwap rows (rowNumbered rows k .word) readAt triedAt log) p k (Is False)) refl) (one-logged (entry readAt p k (Is False)) refl)
+  at-work k o A5 seen readAt triedAt answer =
+      stored-leads (Left k) (rowNumbered rows k) _ seen readAt triedAt answer as-they-were (λ a e. one-logged (entry readAt p k (Is a)) e)
+      (one-logged (entry (firstSwap rows (rowNumbered rows k .word) readAt triedAt log) p k (Is False)) refl)
   at-work k o A6 seen readAt triedAt answer = as-they-were
   at-work k o V1 seen readAt triedAt answer = as-they-were
   at-work k o V2 seen readAt triedAt answer = as-they-were
@@ -138,7 +135,7 @@ turnedBy (suc n) b = turnedBy n (not b)
 
 -- rows whose swaps put in no more than b bits
 abbrev pub FittingIn : (b : ℕ) → List Row → Type 0
-FittingIn b rows = (k v : ℕ) → newOf (rowNumbered rows k) v < 2 ^ b
+FittingIn b rows = (k v : ℕ) → newIn b (rowNumbered rows k) v < 2 ^ b
 
 -- what a swap puts in has no more bits than a value (R10, R14)
 abbrev pub Fitting : List Row → Type 0

@@ -13,23 +13,22 @@ use lib.Seq.{getD-set-same}
 use borrow.Author.Tests.{eqb-true, eqb-false}
 use Rattle.runfile.specs.declared.Row.{Row}
 use Rattle.runfile.specs.Actions.{Action, step as steps, crash as crashes, wake as wakes, crashAll as crashesAll, none as idles, action, named}
+use Rattle.runfile.specs.Kinds.{kindOf}
 use Rattle.runfile.specs.Operations.{rowNumbered, first, count}
-use Rattle.word.specs.Word.{value}
 use Rattle.rows.specs.declared.Entry.{Entry}
 use Rattle.machine.specs.declared.Process.{Process}
 use Rattle.machine.specs.declared.Stage.{Stage}
 use Rattle.machine.specs.declared.Stage.the-variants.{A1, A2, A3, A4, A5, A6, V1, V2, V3, V4, V5, V6}
-use Rattle.machine.specs.declared.Answer.the-variants.{False, True, Value}
 use Rattle.machine.specs.declared.Maybe.{Maybe}
-use Rattle.machine.specs.declared.Maybe.the-variants.{None, Is}
+use Rattle.machine.specs.declared.Maybe.the-variants.{None}
 use Rattle.machine.specs.declared.Opened.{Opened}
 use Rattle.machine.specs.declared.Opened.the-variants.{Closed, Open}
 use Rattle.machine.specs.declared.Status.{Status}
 use Rattle.machine.specs.declared.Status.the-variants.{Down, Idle, N2, N3, Busy}
 use Rattle.machine.specs.Records.{fresh, with-status, with-stored, crashed, waked, wokenUp, rowOpen}
-use Rattle.machine.specs.Turn.{Still, Quiet, Logs, Loses}
-use Rattle.machine.specs.Steps.{storingIn, decide, decideIn, atWork, stepTurn, stepTurnIn}
-use Rattle.machine.specs.KindLaws.{either, read-leads, tried-leads}
+use Rattle.machine.specs.Turn.{Still, Quiet}
+use Rattle.machine.specs.Steps.{decide, decideIn, atWork, stepTurn, stepTurnIn}
+use Rattle.machine.specs.KindLaws.{either, read-leads, lost-leads, tried-leads, stored-leads}
 use Rattle.machine.specs.Machine.{State, processOf, turn, turnIn, apply, applied, procAt, act, actIn, step, stepIn, after, afterIn, begin}
 use Rattle.machine.specs.Laws.{after-join, after-snoc, Turned, still, first-store, second-store, third-store, works, on, ends, turned, record-set, each-step, fresh-at}
 use Rattle.machine.specs.OneByte.{others, step-down, crash-down, no-action, all-down}
@@ -136,15 +135,14 @@ abbrev pub Shut : Process → Type 0
 Shut r = Unopened (r .status) → r .opened ≡ Closed
 
 shut-work : (row : Row) (p t now : ℕ) (r : Process) (stage : Stage) (seen readAt triedAt : ℕ) (answer : Maybe) → Shut (processOf r (decide row p t now r stage seen readAt triedAt answer))
-unfolding decideIn storingIn
+unfolding decideIn
 shut-work row p t now r A1 seen readAt triedAt answer = read-leads (λ st. Shut (with-status st r)) row now t (λ x. absurd x) (λ a x. absurd x)
 shut-work row p t now r A2 seen readAt triedAt answer = λ x. absurd x
 shut-work row p t now r A3 seen readAt triedAt answer = λ x. absurd x
-shut-work row p t now r A4 seen readAt triedAt answer = tried-leads (λ u. Shut (processOf r u)) p t row now r seen readAt (λ y x. absurd x) (λ x. absurd x)
-shut-work row p t now r A5 seen readAt triedAt None = λ x. absurd x
-shut-work row p t now r A5 seen readAt triedAt (Is True) = λ x. absurd x
-shut-work row p t now r A5 seen readAt triedAt (Is (Value v)) = λ x. absurd x
-shut-work row p t now r A5 seen readAt triedAt (Is False) = either (λ u. Shut (processOf r u)) (eqb (value seen) (row .old)) (Loses _ readAt triedAt) (Logs _ readAt False) (λ x. absurd x) (λ x. absurd x)
+shut-work row p t now r A4 seen readAt triedAt answer =
+    tried-leads (λ u. Shut (processOf r u)) p t row now r seen readAt (λ y x. absurd x) (lost-leads (λ st. Shut (with-status st r)) (kindOf row) seen readAt t (λ x. absurd x) (λ x. absurd x))
+shut-work row p t now r A5 seen readAt triedAt answer =
+    stored-leads (λ u. Shut (processOf r u)) row (with-stored (Busy A6 seen readAt triedAt answer) answer r) seen readAt triedAt answer (λ x. absurd x) (λ a e x. absurd x) (λ x. absurd x)
 shut-work row p t now r A6 seen readAt triedAt answer = λ x. refl
 shut-work row p t now r V1 seen readAt triedAt answer = λ x. absurd x
 shut-work row p t now r V2 seen readAt triedAt answer = λ x. absurd x

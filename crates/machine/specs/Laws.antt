@@ -13,24 +13,23 @@ use lib.Seq.{getD-set-same, getD-set-other, set-out}
 use borrow.Author.Tests.{ltb-true, ltb-false, eqb-true, eqb-false}
 use Rattle.runfile.specs.declared.Row.{Row}
 use Rattle.runfile.specs.Actions.{Action, step as steps, crash as crashes, wake as wakes, crashAll as crashesAll, none as idles, action, named}
+use Rattle.runfile.specs.Kinds.{kindOf}
 use Rattle.runfile.specs.Operations.{rowNumbered, first, count}
 use Rattle.runfile.specs.Shares.{last-fits}
 use Rattle.rows.specs.declared.Entry.{Entry}
 use Rattle.machine.specs.declared.Process.{Process}
 use Rattle.machine.specs.declared.Stage.{Stage}
 use Rattle.machine.specs.declared.Stage.the-variants.{A1, A2, A3, A4, A5, A6, V1, V2, V3, V4, V5, V6}
-use Rattle.machine.specs.declared.Answer.the-variants.{False, True, Value}
 use Rattle.machine.specs.declared.Maybe.{Maybe}
-use Rattle.machine.specs.declared.Maybe.the-variants.{None, Is}
+use Rattle.machine.specs.declared.Maybe.the-variants.{None}
 use Rattle.machine.specs.declared.Opened.{Opened}
 use Rattle.machine.specs.declared.Opened.the-variants.{Closed, Open}
 use Rattle.machine.specs.declared.Status.{Status}
 use Rattle.machine.specs.declared.Status.the-variants.{Down, Idle, N2, N3, Busy}
 use Rattle.machine.specs.Records.{fresh, with-status, with-stored, with-checkpoint, Announcing, started, crashed, waked, wokenUp, rowOpen, WorkOpen}
-use Rattle.machine.specs.Turn.{Still, Quiet, Logs, Loses}
-use Rattle.word.specs.Word.{value}
-use Rattle.machine.specs.Steps.{storingIn, decide, decideIn, atWork, stepTurn, stepTurnIn}
-use Rattle.machine.specs.KindLaws.{either, read-leads, tried-leads}
+use Rattle.machine.specs.Turn.{Still, Quiet}
+use Rattle.machine.specs.Steps.{decide, decideIn, atWork, stepTurn, stepTurnIn}
+use Rattle.machine.specs.KindLaws.{read-leads, lost-leads, tried-leads, stored-leads}
 use Rattle.machine.specs.Machine.{State, processOf, turn, turnIn, apply, applied, procAt, act, actIn, step, stepIn, after, afterIn, begin}
 
 pub after-join : (rows : List Row) (t : ℕ) (a b : List ℕ) (s : State) → after rows t (a ++ b) s ≡ after rows (t + length a) b (after rows t a s)
@@ -49,15 +48,15 @@ pub data Goes (r : Process) : Process → Type 0 where
   ends : {next : Process} → next .opened ≡ Closed → next .status ≡ Idle → next .begun ≡ r .begun → Goes r next
 
 pub goes : (row : Row) (p t now : ℕ) (r : Process) (stage : Stage) (seen readAt triedAt : ℕ) (answer : Maybe) → Goes r (processOf r (decide row p t now r stage seen readAt triedAt answer))
-unfolding decideIn storingIn
+unfolding decideIn
 goes row p t now r A1 seen readAt triedAt answer = read-leads (λ st. Goes r (with-status st r)) row now t (on refl refl (λ x. x)) (λ a. on refl refl (λ x. x))
 goes row p t now r A2 seen readAt triedAt answer = on refl refl (λ x. x)
 goes row p t now r A3 seen readAt triedAt answer = on refl refl (λ x. x)
-goes row p t now r A4 seen readAt triedAt answer = tried-leads (λ u. Goes r (processOf r u)) p t row now r seen readAt (λ x. on refl refl (λ x. x)) (on refl refl (λ x. x))
-goes row p t now r A5 seen readAt triedAt None = on refl refl (λ x. x)
-goes row p t now r A5 seen readAt triedAt (Is True) = on refl refl (λ x. x)
-goes row p t now r A5 seen readAt triedAt (Is (Value v)) = on refl refl (λ x. x)
-goes row p t now r A5 seen readAt triedAt (Is False) = either (λ u. Goes r (processOf r u)) (eqb (value seen) (row .old)) (Loses _ readAt triedAt) (Logs _ readAt False) (on refl refl (λ x. x)) (on refl refl (λ x. x))
+goes row p t now r A4 seen readAt triedAt answer =
+    tried-leads (λ u. Goes r (processOf r u)) p t row now r seen readAt (λ x. on refl refl (λ x. x))
+    (lost-leads (λ st. Goes r (with-status st r)) (kindOf row) seen readAt t (on refl refl (λ x. x)) (on refl refl (λ x. x)))
+goes row p t now r A5 seen readAt triedAt answer =
+    stored-leads (λ u. Goes r (processOf r u)) row (with-stored (Busy A6 seen readAt triedAt answer) answer r) seen readAt triedAt answer (on refl refl (λ x. x)) (λ a e. on refl refl (λ x. x)) (on refl refl (λ x. x))
 goes row p t now r A6 seen readAt triedAt answer = ends refl refl refl
 goes row p t now r V1 seen readAt triedAt answer = on refl refl (λ x. x)
 goes row p t now r V2 seen readAt triedAt answer = on refl refl (λ x. x)

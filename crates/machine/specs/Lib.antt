@@ -11,5 +11,6 @@ pub mod Promises
 pub mod OneByte
 pub mod Limits
 pub mod Cut
+pub mod Keeping
 pub mod Absent
 pub mod Widths

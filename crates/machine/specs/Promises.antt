@@ -7,13 +7,17 @@ use mathlib.Core.List.{List}
 use lib.Dec.{eqb, ltb}
 use lib.ListN.{length, getD, set}
 use Rattle.runfile.specs.declared.Row.{Row}
+use Rattle.runfile.specs.declared.Kind.{Kind}
+use Rattle.runfile.specs.Kinds.{newByIn}
 use Rattle.runfile.specs.Layout.{rowOfTable}
 use Rattle.runfile.specs.Operations.{rowsFrom}
-use Rattle.word.specs.Word.{value, bit}
+use Rattle.word.specs.Word.{width, value, bit}
 use Rattle.rows.specs.declared.Entry.{Entry}
 use Rattle.rows.specs.Log.{firstSwap}
 use Rattle.rows.specs.Buffers.{rowsOf, flat, infront}
 use Rattle.machine.specs.declared.Process.{Process}
+use Rattle.machine.specs.declared.Kept.{Kept}
+use Rattle.machine.specs.declared.Answer.{Answer}
 use Rattle.machine.specs.declared.Stage.{Stage}
 use Rattle.machine.specs.declared.Stage.the-variants.{V3, V4, V6}
 use Rattle.machine.specs.declared.Opened.{Opened}
@@ -25,7 +29,7 @@ use Rattle.machine.specs.declared.Work.{Work}
 use Rattle.machine.specs.Records.{fresh, nobody, rowOpen, started, downTo}
 use Rattle.machine.specs.Stages.{stageNumber}
 use Rattle.machine.specs.Reach.{Looked}
-use Rattle.machine.specs.Steps.{storing, entry, afterRead, recovered, sameBit}
+use Rattle.machine.specs.Steps.{storing, entry, afterRead, keptBy, swapSays, lostBy, recovered, sameBit}
 use Rattle.machine.specs.Machine.{effectOf, logAfter}
 
 -- `fresh()`
@@ -63,6 +67,20 @@ pub record AtMostSixteen (count r : ℕ) : Type 0 where
 -- `after_read(row, word, position)`
 abbrev pub AfterRead : (row : Row) (word position : ℕ) (r : Status) → Type 0
 AfterRead row word position r = r ≡ afterRead row word position
+
+-- `keep(kind, before, bit, value)`, `put_in(kind, new, value)`, `swap_says(kind, value)` and `after_loss(kind, seen, read_at, position)`: what goes by
+-- the kind at A2, at A4 and at V4
+abbrev pub KeptNow : (kind : Kind) (before : Kept) (bit : Bool) (value : ℕ) (r : Kept) → Type 0
+KeptNow kind before bit value r = r ≡ keptBy kind before bit value
+
+abbrev pub PutIn : (kind : Kind) (new value r : ℕ) → Type 0
+PutIn kind new value r = r ≡ newByIn width kind new value
+
+abbrev pub SwapSaid : (kind : Kind) (value : ℕ) (r : Answer) → Type 0
+SwapSaid kind value r = r ≡ swapSays kind value
+
+abbrev pub AfterLoss : (kind : Kind) (seen readAt position : ℕ) (r : Status) → Type 0
+AfterLoss kind seen readAt position r = r ≡ lostBy kind seen readAt position
 
 -- `recovered_of(stored)`, `by_checkpoint(checkpoint)` and `by_bit(me, now, kept)`: V1, V2 and V3
 abbrev pub RecoveredBy : (stored : Maybe) (r : Stage) → Type 0
@@ -137,6 +155,18 @@ crashed-first-one processes count r q a b = a ∙ sym b
 
 pub after-read-one : (row : Row) (word position : ℕ) (r q : Status) → AfterRead row word position r → AfterRead row word position q → r ≡ q
 after-read-one row word position r q a b = a ∙ sym b
+
+pub kept-now-one : (kind : Kind) (before : Kept) (bit : Bool) (value : ℕ) (r q : Kept) → KeptNow kind before bit value r → KeptNow kind before bit value q → r ≡ q
+kept-now-one kind before bit value r q a b = a ∙ sym b
+
+pub put-in-one : (kind : Kind) (new value r q : ℕ) → PutIn kind new value r → PutIn kind new value q → r ≡ q
+put-in-one kind new value r q a b = a ∙ sym b
+
+pub swap-said-one : (kind : Kind) (value : ℕ) (r q : Answer) → SwapSaid kind value r → SwapSaid kind value q → r ≡ q
+swap-said-one kind value r q a b = a ∙ sym b
+
+pub after-loss-one : (kind : Kind) (seen readAt position : ℕ) (r q : Status) → AfterLoss kind seen readAt position r → AfterLoss kind seen readAt position q → r ≡ q
+after-loss-one kind seen readAt position r q a b = a ∙ sym b
 
 pub recovered-by-one : (stored : Maybe) (r q : Stage) → RecoveredBy stored r → RecoveredBy stored q → r ≡ q
 recovered-by-one stored r q a b = a ∙ sym b

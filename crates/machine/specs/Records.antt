@@ -5,6 +5,7 @@ use mathlib.Core.List.{List, _++_, map}
 use lib.ListN.{take, drop}
 use mathlib.Core.Bool.{Bool, false}
 use Rattle.machine.specs.declared.Process.{Process}
+use Rattle.machine.specs.declared.Kept.{Kept}
 use Rattle.machine.specs.declared.Stage.the-variants.{A1, V1}
 use Rattle.machine.specs.declared.Maybe.{Maybe}
 use Rattle.machine.specs.declared.Maybe.the-variants.{None}
@@ -13,20 +14,24 @@ use Rattle.machine.specs.declared.Opened.the-variants.{Closed, Open}
 use Rattle.machine.specs.declared.Status.{Status}
 use Rattle.machine.specs.declared.Status.the-variants.{Down, Idle, N2, N3, Busy}
 
+-- before the first A2 of a process the kept bit and the kept value are 0 (R86)
+abbrev pub unkept : Kept
+unkept = record { bit = false; value = 0 }
+
 -- the record before the first byte (R86)
 abbrev pub fresh : Process
-fresh = record { status = Idle; opened = Closed; stored = None; checkpoint = false; kept = false; begun = 0 }
+fresh = record { status = Idle; opened = Closed; stored = None; checkpoint = false; kept = unkept; begun = 0 }
 
 -- what stands past the end of an array of records: each field's first case
 abbrev pub nobody : Process
-nobody = record { status = Down; opened = Closed; stored = None; checkpoint = false; kept = false; begun = 0 }
+nobody = record { status = Down; opened = Closed; stored = None; checkpoint = false; kept = unkept; begun = 0 }
 
 -- a record with another status, and with one kept thing changed as well
 abbrev pub with-status : Status → Process → Process
 with-status status r = record { status = status; opened = r .opened; stored = r .stored; checkpoint = r .checkpoint; kept = r .kept; begun = r .begun }
 
-abbrev pub with-kept : Status → Bool → Process → Process
-with-kept status bit r = record { status = status; opened = r .opened; stored = r .stored; checkpoint = r .checkpoint; kept = bit; begun = r .begun }
+abbrev pub with-kept : Status → Kept → Process → Process
+with-kept status kept r = record { status = status; opened = r .opened; stored = r .stored; checkpoint = r .checkpoint; kept = kept; begun = r .begun }
 
 abbrev pub with-checkpoint : Status → Bool → Process → Process
 with-checkpoint status bit r = record { status = status; opened = r .opened; stored = r .stored; checkpoint = bit; kept = r .kept; begun = r .begun }

@@ -7,16 +7,17 @@ use mathlib.Core.Bool.{Bool, true, false, cond, not}
 use lib.Dec.{eqb, ltb}
 use Rattle.runfile.specs.declared.Row.{Row}
 use Rattle.runfile.specs.declared.Kind.{Kind}
-use Rattle.runfile.specs.declared.Kind.the-variants.{Read, Compare}
-use Rattle.runfile.specs.Kinds.{kindOf, newOf}
+use Rattle.runfile.specs.declared.Kind.the-variants.{Read, Compare, Advance}
+use Rattle.runfile.specs.Kinds.{kindOf, newIn}
 use Rattle.word.specs.Word.{width, valueIn, bitIn, swappedIn}
 use Rattle.rows.specs.declared.Entry.{Entry}
 use Rattle.rows.specs.Entries.{Said}
 use Rattle.machine.specs.declared.Process.{Process}
+use Rattle.machine.specs.declared.Kept.{Kept}
 use Rattle.machine.specs.declared.Stage.{Stage}
 use Rattle.machine.specs.declared.Stage.the-variants.{A1, A2, A3, A4, A5, A6, V1, V2, V3, V4, V5, V6}
 use Rattle.machine.specs.declared.Answer.{Answer}
-use Rattle.machine.specs.declared.Answer.the-variants.{False, True, Value}
+use Rattle.machine.specs.declared.Answer.the-variants.{False, True, Value, Was}
 use Rattle.machine.specs.declared.Maybe.{Maybe}
 use Rattle.machine.specs.declared.Maybe.the-variants.{None, Is}
 use Rattle.machine.specs.declared.Opened.{Opened}
@@ -32,23 +33,34 @@ spoken None = record { verdict = 2; value = 0 }
 spoken (Is False) = record { verdict = 0; value = 0 }
 spoken (Is True) = record { verdict = 1; value = 0 }
 spoken (Is (Value v)) = record { verdict = 3; value = v }
+spoken (Is (Was v)) = record { verdict = 4; value = v }
 
 -- a row of the log or of the answers (R160)
 abbrev pub entry : ℕ → ℕ → ℕ → Maybe → Entry
 entry position process row said = record { position = position; process = process; row = row; verdict = spoken said .verdict; value = spoken said .value }
 
--- What a swap that succeeds at A4 says, by the value v that it found, and what is done when it is lost, at position t; a read has no A4
+-- What A2 keeps, beside what was kept before, where A1 read the value v and the own flip bit turned round is `bit`: a compare the bit alone, an
+-- advance both (R112); a read has no A2
+abbrev pub keptBy : Kind → (before : Kept) (bit : Bool) (v : ℕ) → Kept
+keptBy Read before bit v = record { bit = bit; value = before .value }
+keptBy Compare before bit v = record { bit = bit; value = before .value }
+keptBy Advance before bit v = record { bit = bit; value = v }
+
+-- What a swap that succeeds at A4 says, by the value v that it found, and what is done when it is lost, at position t (R114): an advance goes back to
+-- A1, with nothing in hand, as it stood there when it was announced (R118); a read has no A4
 abbrev pub swapSays : Kind → (v : ℕ) → Answer
 swapSays Read v = True
 swapSays Compare v = True
+swapSays Advance v = Was v
 
 abbrev pub lostBy : Kind → (seen readAt t : ℕ) → Status
 lostBy Read seen readAt t = Busy A5 seen readAt t (Is False)
 lostBy Compare seen readAt t = Busy A5 seen readAt t (Is False)
+lostBy Advance seen readAt t = Busy A1 0 0 0 None
 
--- V4 stores true (R124), as its swap said, which found old; no other value is at hand then
-abbrev pub recalled : Row → Answer
-recalled row = swapSays (kindOf row) (row .old)
+-- V4 stores what its swap said (R124): of an advance, which found the value that A2 kept, that value
+abbrev pub recalled : Row → Kept → Answer
+recalled row kept = swapSays (kindOf row) (kept .value)
 
 -- V1: with an answer stored to V5, with none to V2 (R121)
 abbrev pub recovered : Maybe → Stage
@@ -60,10 +72,12 @@ sameBit true b = b
 sameBit false b = not b
 
 module _ (b : ℕ) where
-  -- A1: the word is read (R111). A read has its answer, and so has a compare that met another value than old; any other goes on to A2
+  -- A1: the word is read (R111). A read has its answer, and so has a compare that met another value than old; a compare that met old goes on to A2,
+  -- and an advance always
   abbrev pub readByIn : Kind → (old word t : ℕ) → Status
   readByIn Read old word t = Busy A5 word t 0 (Is (Value (valueIn b word)))
   readByIn Compare old word t = cond (eqb (valueIn b word) old) (Busy A2 word t 0 None) (Busy A5 word t 0 (Is False))
+  readByIn Advance old word t = Busy A2 word t 0 None
 
   abbrev pub afterReadIn : Row → ℕ → ℕ → Status
   afterReadIn row word t = readByIn (kindOf row) (row .old) word t
@@ -73,7 +87,7 @@ module _ (b : ℕ) where
   triedIn p t row now r seen readAt =
       let says = swapSays (kindOf row) (valueIn b seen) in
       cond (eqb now seen)
-      (Swaps (with-status (Busy A5 seen readAt t (Is says)) r) (swappedIn b p (newOf row (valueIn b seen)) seen) says)
+      (Swaps (with-status (Busy A5 seen readAt t (Is says)) r) (swappedIn b p (newIn b row (valueIn b seen)) seen) says)
       (Quiet (with-status (lostBy (kindOf row) seen readAt t) r))
 
   -- A5: the answer is stored (R115). The log has a successful swap already (R164); a read and a value other than old enter it with the position of
@@ -81,21 +95,22 @@ module _ (b : ℕ) where
   unfoldable pub storingIn : Row → Process → ℕ → ℕ → ℕ → Maybe → Turn
   storingIn row next seen readAt triedAt None = Quiet next
   storingIn row next seen readAt triedAt (Is True) = Quiet next
+  storingIn row next seen readAt triedAt (Is (Was v)) = Quiet next
   storingIn row next seen readAt triedAt (Is (Value v)) = Logs next readAt (Value v)
   storingIn row next seen readAt triedAt (Is False) = cond (eqb (valueIn b seen) (row .old)) (Loses next readAt triedAt) (Logs next readAt False)
 
   -- process p at position t, in the midst of work on a row whose word is `now`
   unfoldable pub decideIn : Row → ℕ → ℕ → ℕ → Process → Stage → ℕ → ℕ → ℕ → Maybe → Turn
   decideIn row p t now r A1 seen readAt triedAt answer = Quiet (with-status (afterReadIn row now t) r)
-  decideIn row p t now r A2 seen readAt triedAt answer = Quiet (with-kept (Busy A3 seen readAt triedAt answer) (not (bitIn b p seen)) r)
+  decideIn row p t now r A2 seen readAt triedAt answer = Quiet (with-kept (Busy A3 seen readAt triedAt answer) (keptBy (kindOf row) (r .kept) (not (bitIn b p seen)) (valueIn b seen)) r)
   decideIn row p t now r A3 seen readAt triedAt answer = Quiet (with-checkpoint (Busy A4 seen readAt triedAt answer) true r)
   decideIn row p t now r A4 seen readAt triedAt answer = triedIn p t row now r seen readAt
   decideIn row p t now r A5 seen readAt triedAt answer = storingIn row (with-stored (Busy A6 seen readAt triedAt answer) answer r) seen readAt triedAt answer
   decideIn row p t now r A6 seen readAt triedAt answer = Replies (closed r) answer
   decideIn row p t now r V1 seen readAt triedAt answer = Quiet (with-status (Busy (recovered (r .stored)) seen readAt triedAt answer) r)
   decideIn row p t now r V2 seen readAt triedAt answer = Quiet (with-status (Busy (cond (r .checkpoint) V3 V6) seen readAt triedAt answer) r)
-  decideIn row p t now r V3 seen readAt triedAt answer = Quiet (with-status (Busy (cond (sameBit (bitIn b p now) (r .kept)) V4 V6) now readAt triedAt answer) r)
-  decideIn row p t now r V4 seen readAt triedAt answer = Quiet (with-stored (Busy V5 seen readAt triedAt answer) (Is (recalled row)) r)
+  decideIn row p t now r V3 seen readAt triedAt answer = Quiet (with-status (Busy (cond (sameBit (bitIn b p now) (r .kept .bit)) V4 V6) now readAt triedAt answer) r)
+  decideIn row p t now r V4 seen readAt triedAt answer = Quiet (with-stored (Busy V5 seen readAt triedAt answer) (Is (recalled row (r .kept))) r)
   decideIn row p t now r V5 seen readAt triedAt answer = Replies (closed r) (r .stored)
   decideIn row p t now r V6 seen readAt triedAt answer = Replies (closed r) None
 

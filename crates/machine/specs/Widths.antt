@@ -1,5 +1,6 @@
 -- Two machines of different widths run alike: one whose words have values of a bits, and one whose words have values of b, no fewer, when
 -- every word of the second is the first's word rewidened. So a file of version 1 that is widened as it is read prints what it printed.
+-- Asked of the rows is that a swap puts in the same at both widths: no advance does, whose sum goes round at another value, and every other row does.
 -- One relation between the two states is kept by every byte: a step comes to the same turn at both widths, and each turn keeps it.
 use Prim.Native.Nat.{ℕ, zero, suc, _+_, _^_, _≤_, _<_}
 use mathlib.Core.Path.{_≡_, refl, sym, _∙_, ap, ap₂, subst}
@@ -9,8 +10,8 @@ use lib.Dec.{eqb, ltb}
 use lib.ListN.{getD, set, replicate, List·getD-map}
 use Rattle.runfile.specs.declared.Row.{Row}
 use Rattle.runfile.specs.declared.Kind.{Kind}
-use Rattle.runfile.specs.declared.Kind.the-variants.{Read, Compare}
-use Rattle.runfile.specs.Kinds.{kindOf, newOf}
+use Rattle.runfile.specs.declared.Kind.the-variants.{Read, Compare, Advance}
+use Rattle.runfile.specs.Kinds.{kindOf, newIn}
 use Rattle.runfile.specs.Actions.{Action, step as steps, crash as crashes, wake as wakes, crashAll as crashesAll, none as idles, action, named}
 use Rattle.runfile.specs.Operations.{rowNumbered, first, count}
 use Rattle.word.specs.Word.{valueIn, flipsIn, swappedIn}
@@ -20,7 +21,7 @@ use Rattle.machine.specs.declared.Process.{Process}
 use Rattle.machine.specs.declared.Stage.{Stage}
 use Rattle.machine.specs.declared.Stage.the-variants.{A1, A2, A3, A4, A5, A6, V1, V2, V3, V4, V5, V6}
 use Rattle.machine.specs.declared.Answer.{Answer}
-use Rattle.machine.specs.declared.Answer.the-variants.{False, True, Value}
+use Rattle.machine.specs.declared.Answer.the-variants.{False, True, Value, Was}
 use Rattle.machine.specs.declared.Maybe.{Maybe}
 use Rattle.machine.specs.declared.Maybe.the-variants.{None, Is}
 use Rattle.machine.specs.declared.Opened.{Opened}
@@ -29,7 +30,8 @@ use Rattle.machine.specs.declared.Status.{Status}
 use Rattle.machine.specs.declared.Status.the-variants.{Down, Idle, N2, N3, Busy}
 use Rattle.machine.specs.Turn.{Turn, Still, Quiet, Swaps, Logs, Loses, Replies}
 use Rattle.machine.specs.Records.{fresh, with-status, with-kept, with-stored, started, crashed, waked, wokenUp, rowOpen}
-use Rattle.machine.specs.Steps.{entry, readByIn, swapSays, lostBy, triedIn, storingIn, sameBit, decideIn, atWorkIn, stepTurnIn}
+use Rattle.machine.specs.Steps.{entry, keptBy, readByIn, swapSays, lostBy, triedIn, storingIn, sameBit, decideIn, atWorkIn, stepTurnIn}
+use Rattle.machine.specs.KindLaws.{NoAdvance, new-put}
 use Rattle.machine.specs.Machine.{State, alone, moveOf, apply, applied, procAt, turnIn, actIn, stepIn, afterIn, begin}
 use Rattle.machine.specs.Laws.{map-set}
 use Rattle.machine.specs.Absent.{FittingIn}
@@ -53,6 +55,18 @@ module _ (a b : ℕ) where
   turnWidened (Logs next q said) = Logs (recordWidened next) q said
   turnWidened (Loses next after otherwise) = Loses (recordWidened next) after otherwise
   turnWidened (Replies next said) = Replies (recordWidened next) said
+
+  -- what is asked of rows: what a swap puts in fits the first width, and is the same at the second
+  pub record Agreeing (rows : List Row) : Type 0 where
+    pub fits : FittingIn a rows
+    pub same : (k v : ℕ) → newIn b (rowNumbered rows k) v ≡ newIn a (rowNumbered rows k) v
+
+  -- rows that are no advances, and whose new is a value of the first width
+  pub agreeing : (rows : List Row) → ((k : ℕ) → NoAdvance (kindOf (rowNumbered rows k))) → ((k : ℕ) → rowNumbered rows k .new < 2 ^ a) → Agreeing rows
+  agreeing rows none small = record {
+    fits = λ k v. subst (λ n. n < 2 ^ a) (sym (new-put a (kindOf (rowNumbered rows k)) (rowNumbered rows k .new) v (none k))) (small k);
+    same = λ k v. new-put b (kindOf (rowNumbered rows k)) (rowNumbered rows k .new) v (none k) ∙ sym (new-put a (kindOf (rowNumbered rows k)) (rowNumbered rows k .new) v (none k));
+  }
 
   -- the relation: words and records rewidened one by one, log and answers equal
   pub record Alike (s u : State) : Type 0 where
@@ -129,15 +143,17 @@ module _ (a b : ℕ) where
         go : (c : Bool) → cond c (Busy A2 (rewidened a b now) t 0 None) (Busy A5 (rewidened a b now) t 0 (Is False)) ≡ statusWidened (cond c (Busy A2 now t 0 None) (Busy A5 now t 0 (Is False)))
         go true = refl
         go false = refl
+    read-alike Advance old now t = refl
 
     lost-alike : (kind : Kind) (seen readAt t : ℕ) → lostBy kind (rewidened a b seen) readAt t ≡ statusWidened (lostBy kind seen readAt t)
     lost-alike Read seen readAt t = refl
     lost-alike Compare seen readAt t = refl
+    lost-alike Advance seen readAt t = ap (λ w. Busy A1 w 0 0 None) (sym (zero-rewidened a b))
 
-    tried-alike : (row : Row) → ((v : ℕ) → newOf row v < 2 ^ a) → (p t now : ℕ) (r : Process) (seen readAt : ℕ)
+    tried-alike : (row : Row) → ((v : ℕ) → newIn a row v < 2 ^ a) → ((v : ℕ) → newIn b row v ≡ newIn a row v) → (p t now : ℕ) (r : Process) (seen readAt : ℕ)
         → triedIn b p t row (rewidened a b now) (recordWidened r) (rewidened a b seen) readAt ≡ turnWidened (triedIn a p t row now r seen readAt)
     unfolding triedIn
-    tried-alike row fits p t now r seen readAt = rw (same-rewidened a b wider now seen, value-rewidened a b wider seen) (go (eqb now seen))
+    tried-alike row fits same p t now r seen readAt = rw (same-rewidened a b wider now seen, value-rewidened a b wider seen) (go (eqb now seen))
       where
         v : ℕ
         v = valueIn a seen
@@ -152,9 +168,9 @@ module _ (a b : ℕ) where
         lost = with-status (lostBy (kindOf row) seen readAt t) r
 
         go : (c : Bool)
-            → cond c (Swaps (recordWidened won) (swappedIn b p (newOf row v) (rewidened a b seen)) says) (Quiet (with-status (lostBy (kindOf row) (rewidened a b seen) readAt t) r))
-            ≡ turnWidened (cond c (Swaps won (swappedIn a p (newOf row v) seen) says) (Quiet lost))
-        go true = ap (λ x. Swaps (recordWidened won) x says) (sym (swapped-rewidened a b wider p (newOf row v) seen (fits v)))
+            → cond c (Swaps (recordWidened won) (swappedIn b p (newIn b row v) (rewidened a b seen)) says) (Quiet (with-status (lostBy (kindOf row) (rewidened a b seen) readAt t) r))
+            ≡ turnWidened (cond c (Swaps won (swappedIn a p (newIn a row v) seen) says) (Quiet lost))
+        go true = ap (λ x. Swaps (recordWidened won) x says) (ap (λ n. swappedIn b p n (rewidened a b seen)) (same v) ∙ sym (swapped-rewidened a b wider p (newIn a row v) seen (fits v)))
         go false = ap (λ st. Quiet (with-status st r)) (lost-alike (kindOf row) seen readAt t)
 
     stored-alike : (row : Row) (next : Process) (seen readAt triedAt : ℕ) (answer : Maybe)
@@ -162,6 +178,7 @@ module _ (a b : ℕ) where
     unfolding storingIn
     stored-alike row next seen readAt triedAt None = refl
     stored-alike row next seen readAt triedAt (Is True) = refl
+    stored-alike row next seen readAt triedAt (Is (Was v)) = refl
     stored-alike row next seen readAt triedAt (Is (Value v)) = refl
     stored-alike row next seen readAt triedAt (Is False) = rw (value-rewidened a b wider seen) (go (eqb (valueIn a seen) (row .old)))
       where
@@ -169,19 +186,20 @@ module _ (a b : ℕ) where
         go true = refl
         go false = refl
 
-    module _ (row : Row) (fits : (v : ℕ) → newOf row v < 2 ^ a) (p t now : ℕ) (r : Process) where
+    module _ (row : Row) (fits : (v : ℕ) → newIn a row v < 2 ^ a) (same : (v : ℕ) → newIn b row v ≡ newIn a row v) (p t now : ℕ) (r : Process) where
       decided-alike : (stage : Stage) (seen readAt triedAt : ℕ) (answer : Maybe)
           → decideIn b row p t (rewidened a b now) (recordWidened r) stage (rewidened a b seen) readAt triedAt answer ≡ turnWidened (decideIn a row p t now r stage seen readAt triedAt answer)
       unfolding decideIn
       decided-alike A1 seen readAt triedAt answer = ap (λ st. Quiet (with-status st r)) (read-alike (kindOf row) (row .old) now t)
-      decided-alike A2 seen readAt triedAt answer = ap (λ c. Quiet (with-kept (Busy A3 (rewidened a b seen) readAt triedAt answer) (not c) r)) (bit-rewidened a b wider p seen)
+      decided-alike A2 seen readAt triedAt answer =
+          ap₂ (λ c v. Quiet (with-kept (Busy A3 (rewidened a b seen) readAt triedAt answer) (keptBy (kindOf row) (r .kept) (not c) v) r)) (bit-rewidened a b wider p seen) (value-rewidened a b wider seen)
       decided-alike A3 seen readAt triedAt answer = refl
-      decided-alike A4 seen readAt triedAt answer = tried-alike row fits p t now r seen readAt
+      decided-alike A4 seen readAt triedAt answer = tried-alike row fits same p t now r seen readAt
       decided-alike A5 seen readAt triedAt answer = stored-alike row (with-stored (Busy A6 seen readAt triedAt answer) answer r) seen readAt triedAt answer
       decided-alike A6 seen readAt triedAt answer = refl
       decided-alike V1 seen readAt triedAt answer = refl
       decided-alike V2 seen readAt triedAt answer = refl
-      decided-alike V3 seen readAt triedAt answer = ap (λ c. Quiet (with-status (Busy (cond (sameBit c (r .kept)) V4 V6) (rewidened a b now) readAt triedAt answer) r)) (bit-rewidened a b wider p now)
+      decided-alike V3 seen readAt triedAt answer = ap (λ c. Quiet (with-status (Busy (cond (sameBit c (r .kept .bit)) V4 V6) (rewidened a b now) readAt triedAt answer) r)) (bit-rewidened a b wider p now)
       decided-alike V4 seen readAt triedAt answer = refl
       decided-alike V5 seen readAt triedAt answer = refl
       decided-alike V6 seen readAt triedAt answer = refl
@@ -204,7 +222,7 @@ module _ (a b : ℕ) where
           go (Open k) = decided-alike stage seen readAt triedAt answer
 
     -- Byte by byte: states that are alike stay so.
-    module _ (rows : List Row) (fits : FittingIn a rows) where
+    module _ (rows : List Row) (agree : Agreeing rows) where
       keeps-move : (t p : ℕ) (s u : State) → Alike s u → (r q : Process) → q ≡ recordWidened r
           → Alike (applied p (turnIn a rows p t (s .words) (s .log) r (r .status)) s) (applied p (turnIn b rows p t (u .words) (u .log) q (q .status)) u)
       unfolding turnIn
@@ -225,7 +243,7 @@ module _ (a b : ℕ) where
           same : stepTurnIn b row p t (getD (u .words) (row .word) 0) (first rows p) (count rows p) (recordWidened r) (statusWidened (r .status)) ≡ turnWidened turned
           same =
               ap (λ now. stepTurnIn b row p t now (first rows p) (count rows p) (recordWidened r) (statusWidened (r .status))) (word-alike s u h (row .word))
-              ∙ step-alike row (fits k) p t (getD (s .words) (row .word) 0) r (first rows p) (count rows p) (r .status)
+              ∙ step-alike row (agree .fits k) (agree .same k) p t (getD (s .words) (row .word) 0) r (first rows p) (count rows p) (r .status)
 
           now : Alike left (applied p (moveOf rows (u .log) p t k (row .word) (recordWidened r) (stepTurnIn b row p t (getD (u .words) (row .word) 0) (first rows p) (count rows p) (recordWidened r) (statusWidened (r .status)))) u)
           now = subst (λ x. Alike left (applied p (moveOf rows (u .log) p t k (row .word) (recordWidened r) x) u)) (sym same) (keeps-turn s u h rows p t k (row .word) r turned)

@@ -2,11 +2,16 @@
 //
 // What a byte means stands in specs/Steps and specs/Machine (R70 to R173). Here are the record and the small functions
 // of which a step consists; the crate `engine` runs schedules with them.
+mod kinds;
 mod operation;
 mod records;
 mod recovery;
 mod said;
 
+pub use kinds::after_loss;
+pub use kinds::keep;
+pub use kinds::put_in;
+pub use kinds::swap_says;
 pub use operation::after_read;
 pub use operation::enter;
 pub use operation::store_word;
@@ -39,10 +44,12 @@ pub enum Stage {
     V6,
 }
 
+// An answer: of a compare, of a read, and of an advance, which says what the value was before it (R85).
 pub enum Answer {
     False,
     True,
     Value(u32),
+    Was(u32),
 }
 
 // An answer, or none: the stored one, the one to store, and what is returned (none is fail; R85).
@@ -74,13 +81,19 @@ pub enum Status {
     },
 }
 
+// What A2 keeps in one store: the own flip bit turned round and, of an advance, the value that it read (R84, R112).
+pub struct Kept {
+    pub bit: bool,
+    pub value: u32,
+}
+
 // A process: its status, and what is kept through a crash (R84).
 pub struct Process {
     pub status: Status,
     pub opened: Opened,
     pub stored: Maybe,
     pub checkpoint: bool,
-    pub kept: bool,
+    pub kept: Kept,
     pub begun: u16,
 }
 

@@ -30,7 +30,8 @@ pub fn store_word(table: &[u8], stride: usize, k: usize, words: &mut [u64], new:
     words[w] = new;
 }
 
-// A1, once the word is read at this position: a read is done, and so is a compare that meets another value (R111).
+// A1, once the word is read at this position: a read is done, and so is a compare that meets another value; an
+// advance always goes on (R111).
 pub fn after_read(row: Row, word: u64, position: u16) -> Status
     ensures { λ r. ⌜ AfterRead row word position r ⌝ }
 {
@@ -61,6 +62,15 @@ pub fn after_read(row: Row, word: u64, position: u16) -> Status
                 read_at: position,
                 tried_at: 0,
                 answer: Maybe::Is(Answer::False),
+            }
+        }
+        Kind::Advance => {
+            Status::Busy {
+                stage: Stage::A2,
+                word,
+                read_at: position,
+                tried_at: 0,
+                answer: Maybe::None,
             }
         }
     }
@@ -106,6 +116,7 @@ pub fn enter(
     };
     match said {
         Answer::True => log_rows,
+        Answer::Was(_) => log_rows,
         Answer::Value(_) => {
             let read = entry_of(work.read_at as u32, work.process, work.row, answer);
             rows::insert_row(log, log_rows, read);

@@ -1,4 +1,5 @@
 // The process record: how it is read, and how it is made.
+use super::Kept;
 use super::Maybe;
 use super::Opened;
 use super::Process;
@@ -16,7 +17,10 @@ pub fn fresh() -> Process
         opened: Opened::Closed,
         stored: Maybe::None,
         checkpoint: false,
-        kept: false,
+        kept: Kept {
+            bit: false,
+            value: 0,
+        },
         begun: 0,
     }
 }

@@ -17,10 +17,11 @@ fn verdict_of(said: Maybe) -> u32
         Answer::False => 0,
         Answer::True => 1,
         Answer::Value(_) => 3,
+        Answer::Was(_) => 4,
     }
 }
 
-// The value: 0 for all but a value read (R162).
+// The value: 0 for all but a value read and the value before an advance (R162).
 fn value_said(said: Maybe) -> u32
     ensures { λ r. ⌜ r ≡ spoken said .value ⌝ }
 {
@@ -31,6 +32,7 @@ fn value_said(said: Maybe) -> u32
         Answer::False => 0,
         Answer::True => 0,
         Answer::Value(value) => value,
+        Answer::Was(value) => value,
     }
 }
 

@@ -10,8 +10,8 @@ use Rattle.machine.specs.declared.Process.{Process}
 use Rattle.machine.specs.Records.{nobody}
 use Rattle.panel.specs.Laid.{laid}
 
--- the bytes before a record fit a word (56 is the size of a record)
-pub place-fits : (i n : ℕ) → i < n → n * 56 < 2 ^ 63 → i * 56 < 2 ^ 64
+-- the bytes before a record fit a word (64 is the size of a record)
+pub place-fits : (i n : ℕ) → i < n → n * 64 < 2 ^ 63 → i * 64 < 2 ^ 64
 place-fits i n l r = omega arith
 
 pub laid-none : (a b : List Process) → b ≡ laid 0 a b

@@ -3,7 +3,7 @@
 use Prim.Native.Nat.{ℕ, _+_, _*_, _^_}
 use mathlib.Core.Path.{_≡_, refl}
 use mathlib.Core.Bool.{true, false}
-use mathlib.Core.List.{List, [], _∷_, map}
+use mathlib.Core.List.{List, [], _∷_, _++_, map}
 use lib.ListN.{replicate}
 use Rattle.runfile.specs.declared.Row.{Row}
 use Rattle.runfile.specs.Format.{headSize, wordSize, rowSize, newPlace}
@@ -11,8 +11,8 @@ use Rattle.runfile.specs.Layout.{u16At, u32At, marked, headerIn, numberAt, rowA
 use Rattle.runfile.specs.Operations.{rowsFrom, tableOf, rowNumbered, first, count, names}
 use Rattle.runfile.specs.Refusals.{badField, sameFields, badByte, firstBadField, firstRow, firstLaterRow, firstByte, fileRefusal}
 use Rattle.machine.specs.declared.Process.{Process}
-use Rattle.machine.specs.declared.Stage.the-variants.{A1, A2, A5, A6, V2, V3, V5}
-use Rattle.machine.specs.declared.Answer.the-variants.{False, True, Value}
+use Rattle.machine.specs.declared.Stage.the-variants.{A1, A2, A4, A5, A6, V2, V3, V4, V5}
+use Rattle.machine.specs.declared.Answer.the-variants.{False, True, Value, Was}
 use Rattle.machine.specs.declared.Maybe.{Maybe}
 use Rattle.machine.specs.declared.Maybe.the-variants.{None, Is}
 use Rattle.machine.specs.declared.Opened.{Opened}
@@ -24,7 +24,7 @@ use Rattle.word.specs.Word.{width, bitOf, turnOf, valueIn, flipsIn, bitIn, swap
 use Rattle.rows.specs.Entries.{isSwapped}
 use Rattle.rows.specs.Log.{onePast, place, insert, isSwap, firstSwap}
 use Rattle.rows.specs.Buffers.{five, entryAt, infront}
-use Rattle.machine.specs.Records.{fresh}
+use Rattle.machine.specs.Records.{fresh, unkept}
 use Rattle.machine.specs.Steps.{spoken, triedIn, storingIn, decideIn, stepTurnIn}
 use Rattle.machine.specs.Machine.{turnIn, apply, applied, procAt, actIn, stepIn}
 use Rattle.panel.specs.declared.Stroke.{Stroke}
@@ -40,7 +40,7 @@ abbrev rows : List Row
 rows = record { process = 0; kind = 0; word = 0; old = 0; new = 0 } ∷ record { process = 0; kind = 1; word = 0; old = 7; new = 8 } ∷ []
 
 abbrev with : (begun : ℕ) → Opened → (stored : Maybe) → Status → Process
-with begun opened stored status = record { status = status; opened = opened; stored = stored; checkpoint = false; kept = false; begun = begun }
+with begun opened stored status = record { status = status; opened = opened; stored = stored; checkpoint = false; kept = unkept; begun = begun }
 
 abbrev at : Stage → Maybe → Status
 at stage answer = Busy stage 7 0 0 answer
@@ -98,6 +98,35 @@ each-met = refl
 pub none-met : map (impossible rows 0) can-be ≡ replicate 17 false
 unfolding impossible misplaced misdone rowNumbered first count valueIn
 none-met = refl
+
+-- the same two rows, and then it advances word 0 by 5: what only an advance answers, and what it never does (R231i)
+abbrev three : List Row
+three = rows ++ (record { process = 0; kind = 2; word = 0; old = 0; new = 5 } ∷ [])
+
+abbrev no-advance : List Process
+no-advance =
+    with 1 (Open 0) (Is (Was 7)) Down
+    ∷ with 2 (Open 1) (Is (Was 7)) Down
+    ∷ with 3 (Open 2) None (at A5 (Is True))
+    ∷ with 3 (Open 2) None (at A5 (Is False))
+    ∷ with 3 (Open 2) (Is (Value 7)) Down
+    ∷ with 3 (Open 2) (Is (Was (2 ^ width))) Down
+    ∷ []
+
+-- it has every stage (R231h)
+abbrev advance : List Process
+advance =
+    with 3 (Open 2) None (at A1 None)
+    ∷ with 3 (Open 2) None (at A4 None)
+    ∷ with 3 (Open 2) None (at A5 (Is (Was 7)))
+    ∷ with 3 (Open 2) (Is (Was 7)) (at A6 (Is (Was 7)))
+    ∷ with 3 (Open 2) None (at V4 None)
+    ∷ with 3 (Open 2) (Is (Was 7)) (at V5 None)
+    ∷ []
+
+pub advances-judged : (map (impossible three 0) no-advance ≡ replicate 6 true) × (map (impossible three 0) advance ≡ replicate 6 false)
+unfolding impossible misplaced misdone rowNumbered first count valueIn
+advances-judged = (refl, refl)
 
 -- two processes, one word, the two rows, no schedule
 abbrev file : List ℕ

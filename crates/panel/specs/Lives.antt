@@ -2,7 +2,7 @@
 -- each stage, what the three stores and the earlier stages have left, and that a step, a crash and a wake keep.
 use Prim.Native.Nat.{ℕ, suc, _+_, _≤_, _<_}
 use mathlib.Core.Path.{_≡_, refl, sym, _∙_, subst}
-use mathlib.Core.Bool.{Bool, true, false, cond, _||_, true≢false}
+use mathlib.Core.Bool.{Bool, true, false, cond, not, _||_, true≢false}
 use mathlib.Core.List.{List}
 use native.Mathlib.Omega.{arith}
 use lib.Dec.{eqb, ltb}
@@ -11,15 +11,16 @@ use borrow.Author.Tests.{ltb-true, le-ltb, lt-leb, eq-eqb, ne-eqb}
 use Rattle.runfile.specs.declared.Row.{Row}
 use Rattle.runfile.specs.Operations.{rowNumbered, first, count}
 use Rattle.runfile.specs.declared.Kind.{Kind}
-use Rattle.runfile.specs.declared.Kind.the-variants.{Read, Compare}
+use Rattle.runfile.specs.declared.Kind.the-variants.{Read, Compare, Advance}
 use Rattle.runfile.specs.Kinds.{kindOf}
 use Rattle.rows.specs.declared.Entry.{Entry}
-use Rattle.word.specs.Word.{width, value, bit}
+use Rattle.word.specs.Word.{width, value, valueIn, bit}
 use Rattle.word.specs.Laws.{value-own}
 use Rattle.machine.specs.declared.Process.{Process}
+use Rattle.machine.specs.declared.Kept.{Kept}
 use Rattle.machine.specs.declared.Stage.{Stage}
 use Rattle.machine.specs.declared.Stage.the-variants.{A1, A2, A3, A4, A5, A6, V1, V2, V3, V4, V5, V6}
-use Rattle.machine.specs.declared.Answer.the-variants.{False, True, Value}
+use Rattle.machine.specs.declared.Answer.the-variants.{False, True, Value, Was}
 use Rattle.machine.specs.declared.Maybe.{Maybe}
 use Rattle.machine.specs.declared.Maybe.the-variants.{None, Is}
 use Rattle.machine.specs.declared.Opened.{Opened}
@@ -28,7 +29,7 @@ use Rattle.machine.specs.declared.Status.{Status}
 use Rattle.machine.specs.declared.Status.the-variants.{Down, Idle, N2, N3, Busy}
 use Rattle.machine.specs.Turn.{Still, Quiet, Logs, Loses}
 use Rattle.machine.specs.Records.{fresh, with-status, with-stored, closed, crashed, waked, wokenUp, started, rowOpen}
-use Rattle.machine.specs.Steps.{decide, decideIn, readBy, afterRead, swapSays, tried, recalled, storing, storingIn, atWork, stepTurn, stepTurnIn, recovered, sameBit}
+use Rattle.machine.specs.Steps.{decide, decideIn, readBy, afterRead, keptBy, swapSays, lostBy, tried, recalled, storing, storingIn, atWork, stepTurn, stepTurnIn, recovered, sameBit}
 use Rattle.machine.specs.KindLaws.{either, tried-leads}
 use Rattle.machine.specs.Machine.{State, processOf, turn, turnIn, procAt, step, begin}
 use Rattle.machine.specs.Laws.{fresh-at, closed-open, each-step}
@@ -61,34 +62,36 @@ At rows count r (Busy stage seen readAt triedAt answer) = Works rows (r .opened)
 pub record Lives (rows : List Row) (p : ℕ) (r : Process) : Type 0 where
   pub few : r .begun ≤ count rows p
   pub opened-last : (k : ℕ) → r .opened ≡ Open k → Last rows (first rows p) (r .begun) (r .stored) (r .checkpoint) k
+  pub keeps : value (r .kept .value) ≡ r .kept .value
   pub at : At rows (count rows p) r (r .status)
 
--- Of the tables: a stage that a read has, every kind has; a kind that has another stage has all, and can say what its swap says, and false.
+-- Of the tables: a stage that a read has, every kind has; a kind that has another stage has all, and can say what its swap says over a value.
 both : (stage : Stage) → readHas stage ≡ true → (kind : Kind) → hasStage kind stage ≡ true
 both stage e Read = e
 both stage e Compare = refl
+both stage e Advance = refl
 
-module _ (kind : Kind) (stage : Stage) (more : readHas stage ≡ false) (has : hasStage kind stage ≡ true) where
-  is-compare : kind ≡ Compare
-  is-compare = go kind has
-    where
-      go : (kind : Kind) → hasStage kind stage ≡ true → kind ≡ Compare
-      go Read h = absurd (true≢false (sym h ∙ more))
-      go Compare h = refl
+module _ (stage : Stage) (more : readHas stage ≡ false) where
+  has-all : (kind : Kind) → hasStage kind stage ≡ true → (other : Stage) → hasStage kind other ≡ true
+  has-all Read has other = absurd (true≢false (sym has ∙ more))
+  has-all Compare has other = refl
+  has-all Advance has other = refl
 
-  has-all : (other : Stage) → hasStage kind other ≡ true
-  has-all other = rw is-compare
+  swap-said : (kind : Kind) → hasStage kind stage ≡ true → (v : ℕ) → value v ≡ v → canSay kind (swapSays kind v) ≡ true
+  swap-said Read has v e = absurd (true≢false (sym has ∙ more))
+  swap-said Compare has v e = refl
+  swap-said Advance has v e = eq-eqb (value v) v e
 
-  swap-said : (v : ℕ) → canSay kind (swapSays kind v) ≡ true
-  swap-said v = rw is-compare
-
-  loss-said : canSay kind False ≡ true
-  loss-said = rw is-compare
+-- what A2 keeps has a value beside the bit, if what was kept before had
+keeps-value : (kind : Kind) (before : Kept) (bit : Bool) (v : ℕ) → value (before .value) ≡ before .value → value v ≡ v → value (keptBy kind before bit v .value) ≡ keptBy kind before bit v .value
+keeps-value Read before bit v old new = old
+keeps-value Compare before bit v old new = old
+keeps-value Advance before bit v old new = new
 
 module _ (rows : List Row) (p : ℕ) where
   -- a record whose status alone is another
   go-on : (r : Process) (status : Status) → Lives rows p r → At rows (count rows p) (with-status status r) status → Lives rows p (with-status status r)
-  go-on r status h a = record { few = h .few; opened-last = h .opened-last; at = a }
+  go-on r status h a = record { few = h .few; opened-last = h .opened-last; keeps = h .keeps; at = a }
 
   -- a step in the midst of work on row k
   module _ (t now : ℕ) (r : Process) (h : Lives rows p r) (k : ℕ) (o : r .opened ≡ Open k) where
@@ -113,12 +116,18 @@ module _ (rows : List Row) (p : ℕ) where
         go Compare q =
             either (λ st. Lives rows p (with-status st r)) (eqb (value now) (row .old)) (Busy A2 now t 0 None) (Busy A5 now t 0 (Is False))
             (go-on r _ h (at-work (r .stored) A2 None (rw q) refl refl)) (go-on r _ h (at-work (r .stored) A5 (Is False) (rw q) (rw q) refl))
+        go Advance q = go-on r _ h (at-work (r .stored) A2 None (rw q) refl refl)
 
     lives-tried : (seen readAt : ℕ) → hasStage (kindOf row) A4 ≡ true → Lives rows p (processOf r (tried p t row now r seen readAt))
     lives-tried seen readAt s =
         tried-leads (λ u. Lives rows p (processOf r u)) p t row now r seen readAt
-        (λ x. go-on r _ h (at-work (r .stored) A5 (Is (swapSays (kindOf row) (value seen))) (both A5 refl (kindOf row)) (swap-said (kindOf row) A4 refl s (value seen)) refl))
-        (go-on r _ h (at-work (r .stored) A5 (Is False) (both A5 refl (kindOf row)) (loss-said (kindOf row) A4 refl s) refl))
+        (λ x. go-on r _ h (at-work (r .stored) A5 (Is (swapSays (kindOf row) (value seen))) (both A5 refl (kindOf row)) (swap-said A4 refl (kindOf row) s (value seen) (value-own width seen)) refl))
+        (lost (kindOf row) refl s)
+      where
+        lost : (kind : Kind) → kindOf row ≡ kind → hasStage kind A4 ≡ true → Lives rows p (with-status (lostBy kind seen readAt t) r)
+        lost Read q s = absurd (true≢false (sym s))
+        lost Compare q s = go-on r _ h (at-work (r .stored) A5 (Is False) (rw q) (rw q) refl)
+        lost Advance q s = go-on r _ h (at-work (r .stored) A1 None (rw q) refl refl)
 
     -- an answer of the row's kind is stored, at a stage of that kind
     stores : (stage : Stage) (seen readAt triedAt : ℕ) (answer stored : Maybe) → hasStage (kindOf row) stage ≡ true → hasAnswer (kindOf row) answer ≡ true → missing stage answer stored ≡ false → hasAnswer (kindOf row) stored ≡ true
@@ -126,6 +135,7 @@ module _ (rows : List Row) (p : ℕ) where
     stores stage seen readAt triedAt answer stored s a m k-ok = record {
       few = h .few;
       opened-last = λ j e. subst (Last rows (first rows p) (r .begun) stored (r .checkpoint)) (same-row e) (record { last = kept-last .last; some = kept-last .some; kind = k-ok; unchecked = kept-last .unchecked });
+      keeps = h .keeps;
       at = at-work stored stage answer s a m;
     }
 
@@ -133,6 +143,7 @@ module _ (rows : List Row) (p : ℕ) where
     unfolding storingIn
     next-is next seen readAt triedAt None = refl
     next-is next seen readAt triedAt (Is True) = refl
+    next-is next seen readAt triedAt (Is (Was v)) = refl
     next-is next seen readAt triedAt (Is (Value v)) = refl
     next-is next seen readAt triedAt (Is False) = go (eqb (value seen) (row .old))
       where
@@ -142,7 +153,7 @@ module _ (rows : List Row) (p : ℕ) where
 
     -- the row is closed
     ends : Lives rows p (closed r)
-    ends = record { few = h .few; opened-last = λ j e. closed-open e; at = refl }
+    ends = record { few = h .few; opened-last = λ j e. closed-open e; keeps = h .keeps; at = refl }
 
     lives-recovered : (stored : Maybe) → r .stored ≡ stored → (seen readAt triedAt : ℕ) (answer : Maybe) → hasAnswer (kindOf row) answer ≡ true → Lives rows p (with-status (Busy (recovered stored) seen readAt triedAt answer) r)
     lives-recovered None q seen readAt triedAt answer a = go-on r _ h (at-work (r .stored) V2 answer (both V2 refl (kindOf row)) a refl)
@@ -157,18 +168,24 @@ module _ (rows : List Row) (p : ℕ) where
     lives-checked false q seen readAt triedAt answer a = go-on r _ h (at-work (r .stored) V6 answer (both V6 refl (kindOf row)) a refl)
 
     lives-compared : (c : Bool) (readAt triedAt : ℕ) (answer : Maybe) → hasStage (kindOf row) V3 ≡ true → hasAnswer (kindOf row) answer ≡ true → Lives rows p (with-status (Busy (cond c V4 V6) now readAt triedAt answer) r)
-    lives-compared true readAt triedAt answer s a = go-on r _ h (at-work (r .stored) V4 answer (has-all (kindOf row) V3 refl s V4) a refl)
+    lives-compared true readAt triedAt answer s a = go-on r _ h (at-work (r .stored) V4 answer (has-all V3 refl (kindOf row) s V4) a refl)
     lives-compared false readAt triedAt answer s a = go-on r _ h (at-work (r .stored) V6 answer (both V6 refl (kindOf row)) a refl)
 
     lives-decide : (stage : Stage) (seen readAt triedAt : ℕ) (answer : Maybe) → hasStage (kindOf row) stage ≡ true → hasAnswer (kindOf row) answer ≡ true → missing stage answer (r .stored) ≡ false
         → Lives rows p (processOf r (decide row p t now r stage seen readAt triedAt answer))
     unfolding decideIn
     lives-decide A1 seen readAt triedAt answer s a m = lives-read
-    lives-decide A2 seen readAt triedAt answer s a m = record { few = h .few; opened-last = h .opened-last; at = at-work (r .stored) A3 answer (has-all (kindOf row) A2 refl s A3) a refl }
+    lives-decide A2 seen readAt triedAt answer s a m = record {
+      few = h .few;
+      opened-last = h .opened-last;
+      keeps = keeps-value (kindOf row) (r .kept) (not (bit p seen)) (value seen) (h .keeps) (value-own width seen);
+      at = at-work (r .stored) A3 answer (has-all A2 refl (kindOf row) s A3) a refl;
+    }
     lives-decide A3 seen readAt triedAt answer s a m = record {
       few = h .few;
-      opened-last = λ j e. subst (Last rows (first rows p) (r .begun) (r .stored) true) (same-row e) (record { last = kept-last .last; some = kept-last .some; kind = kept-last .kind; unchecked = λ q. absurd (true≢false (sym (has-all (kindOf row) A3 refl s V3) ∙ q)) });
-      at = at-work (r .stored) A4 answer (has-all (kindOf row) A3 refl s A4) a refl;
+      opened-last = λ j e. subst (Last rows (first rows p) (r .begun) (r .stored) true) (same-row e) (record { last = kept-last .last; some = kept-last .some; kind = kept-last .kind; unchecked = λ q. absurd (true≢false (sym (has-all A3 refl (kindOf row) s V3) ∙ q)) });
+      keeps = h .keeps;
+      at = at-work (r .stored) A4 answer (has-all A3 refl (kindOf row) s A4) a refl;
     }
     lives-decide A4 seen readAt triedAt answer s a m = lives-tried seen readAt s
     lives-decide A5 seen readAt triedAt answer s a m =
@@ -176,8 +193,8 @@ module _ (rows : List Row) (p : ℕ) where
     lives-decide A6 seen readAt triedAt answer s a m = ends
     lives-decide V1 seen readAt triedAt answer s a m = lives-recovered (r .stored) refl seen readAt triedAt answer a
     lives-decide V2 seen readAt triedAt answer s a m = lives-checked (r .checkpoint) refl seen readAt triedAt answer a
-    lives-decide V3 seen readAt triedAt answer s a m = lives-compared (sameBit (bit p now) (r .kept)) readAt triedAt answer s a
-    lives-decide V4 seen readAt triedAt answer s a m = stores V5 seen readAt triedAt answer (Is (recalled row)) (both V5 refl (kindOf row)) a refl (swap-said (kindOf row) V4 refl s (row .old))
+    lives-decide V3 seen readAt triedAt answer s a m = lives-compared (sameBit (bit p now) (r .kept .bit)) readAt triedAt answer s a
+    lives-decide V4 seen readAt triedAt answer s a m = stores V5 seen readAt triedAt answer (Is (recalled row (r .kept))) (both V5 refl (kindOf row)) a refl (swap-said V4 refl (kindOf row) s (r .kept .value) (h .keeps))
     lives-decide V5 seen readAt triedAt answer s a m = ends
     lives-decide V6 seen readAt triedAt answer s a m = ends
 
@@ -187,7 +204,7 @@ module _ (rows : List Row) (p : ℕ) where
   lives-turn t words log r h = go (r .status) refl (h .at)
     where
       start : (c : Bool) → ltb (r .begun) (count rows p) ≡ c → r .opened ≡ Closed → Lives rows p (processOf r (cond c (Quiet (with-stored N2 None r)) Still))
-      start true l o = record { few = h .few; opened-last = λ j e. closed-open (sym o ∙ e); at = (o, ltb-true (r .begun) (count rows p) l, refl) }
+      start true l o = record { few = h .few; opened-last = λ j e. closed-open (sym o ∙ e); keeps = h .keeps; at = (o, ltb-true (r .begun) (count rows p) l, refl) }
       start false l o = h
 
       -- the third store opens the row, with what the first two have cleared
@@ -196,6 +213,7 @@ module _ (rows : List Row) (p : ℕ) where
         few = a .1;
         opened-last = λ j e. subst (Last rows (first rows p) (suc (r .begun)) (r .stored) (r .checkpoint)) (same e)
             (record { last = omega arith; some = omega arith; kind = rw (a .2) refl; unchecked = λ _. a .3 });
+        keeps = h .keeps;
         at = record { row = first rows p + r .begun; opens = refl; has-stage = both A1 refl (kindOf (rowNumbered rows (first rows p + r .begun))); has-answer = refl; answered = refl };
       }
         where
@@ -216,12 +234,12 @@ module _ (rows : List Row) (p : ℕ) where
           → Lives rows p (processOf r (stepTurn (rowNumbered rows (rowOpen (r .opened))) p t (getD words (rowNumbered rows (rowOpen (r .opened)) .word) 0) (first rows p) (count rows p) r status))
       go Down e a = h
       go Idle e a = start (ltb (r .begun) (count rows p)) refl a
-      go N2 e a = record { few = h .few; opened-last = λ j x. closed-open (sym (a .0) ∙ x); at = (a .0, a .1, a .2, refl) }
+      go N2 e a = record { few = h .few; opened-last = λ j x. closed-open (sym (a .0) ∙ x); keeps = h .keeps; at = (a .0, a .1, a .2, refl) }
       go N3 e a = opens a
       go (Busy stage seen readAt triedAt answer) e a = work (r .opened) refl stage seen readAt triedAt answer a
 
   lives-crashed : (r : Process) → Lives rows p r → Lives rows p (crashed r)
-  lives-crashed r h = record { few = h .few; opened-last = h .opened-last; at = tt }
+  lives-crashed r h = record { few = h .few; opened-last = h .opened-last; keeps = h .keeps; at = tt }
 
   lives-waked : (r : Process) (status : Status) → Lives rows p r → Lives rows p (waked r status)
   lives-waked r Down h = go-on r _ h (go (r .opened) refl)
@@ -235,7 +253,8 @@ module _ (rows : List Row) (p : ℕ) where
   lives-waked r (Busy stage seen readAt triedAt answer) h = h
 
   pub lives-fresh : Lives rows p fresh
-  lives-fresh = record { few = omega arith; opened-last = λ k e. closed-open e; at = refl }
+  unfolding valueIn
+  lives-fresh = record { few = omega arith; opened-last = λ k e. closed-open e; keeps = refl; at = refl }
 
 -- every record goes on so, whatever the byte is
 pub lives-step : (rows : List Row) (t byte : ℕ) (s : State) → ((q : ℕ) → Lives rows q (procAt q s)) → (q : ℕ) → Lives rows q (procAt q (step rows t byte s))

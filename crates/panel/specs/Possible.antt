@@ -8,13 +8,13 @@ use Rattle.runfile.specs.declared.Row.{Row}
 use Rattle.word.specs.Word.{value}
 use Rattle.runfile.specs.Operations.{rowNumbered, first, count}
 use Rattle.runfile.specs.declared.Kind.{Kind}
-use Rattle.runfile.specs.declared.Kind.the-variants.{Read, Compare}
+use Rattle.runfile.specs.declared.Kind.the-variants.{Read, Compare, Advance}
 use Rattle.runfile.specs.Kinds.{kindOf}
 use Rattle.machine.specs.declared.Process.{Process}
 use Rattle.machine.specs.declared.Stage.{Stage}
 use Rattle.machine.specs.declared.Stage.the-variants.{A1, A2, A3, A4, A5, A6, V1, V2, V3, V4, V5, V6}
 use Rattle.machine.specs.declared.Answer.{Answer}
-use Rattle.machine.specs.declared.Answer.the-variants.{False, True, Value}
+use Rattle.machine.specs.declared.Answer.the-variants.{False, True, Value, Was}
 use Rattle.machine.specs.declared.Maybe.{Maybe}
 use Rattle.machine.specs.declared.Maybe.the-variants.{None, Is}
 use Rattle.machine.specs.declared.Opened.{Opened}
@@ -24,7 +24,7 @@ use Rattle.machine.specs.declared.Status.the-variants.{Down, Idle, N2, N3, Busy
 use Rattle.machine.specs.Records.{nobody, rowOpen}
 
 -- The stages (R231h) and answers (R231i) of each kind. A read goes from A1 to A5 and has no checkpoint, so that its recovery goes from V2 to V6;
--- a compare has every stage. A read answers with a value, a compare with false or true.
+-- a compare and an advance have every stage. A read answers with a value, a compare with false or true, an advance with the value before it.
 abbrev pub readHas : Stage → Bool
 readHas A1 = true
 readHas A2 = false
@@ -42,21 +42,31 @@ readHas V6 = true
 abbrev pub hasStage : Kind → Stage → Bool
 hasStage Read stage = readHas stage
 hasStage Compare stage = true
+hasStage Advance stage = true
 
--- a read answers with what is a value, that is with a number that is its own value
+-- a read and an advance answer with what is a value, that is with a number that is its own value
 abbrev pub readSays : Answer → Bool
 readSays False = false
 readSays True = false
 readSays (Value v) = eqb (value v) v
+readSays (Was v) = false
 
 abbrev pub compareSays : Answer → Bool
 compareSays False = true
 compareSays True = true
 compareSays (Value v) = false
+compareSays (Was v) = false
+
+abbrev pub advanceSays : Answer → Bool
+advanceSays False = false
+advanceSays True = false
+advanceSays (Value v) = false
+advanceSays (Was v) = eqb (value v) v
 
 abbrev pub canSay : Kind → Answer → Bool
 canSay Read answer = readSays answer
 canSay Compare answer = compareSays answer
+canSay Advance answer = advanceSays answer
 
 abbrev pub hasAnswer : Kind → Maybe → Bool
 hasAnswer kind None = true

@@ -36,10 +36,11 @@ fn has_stage(kind: Kind, stage: Stage) -> bool
     match kind {
         Kind::Read => read_has(stage),
         Kind::Compare => true,
+        Kind::Advance => true,
     }
 }
 
-// The answers of a read, which are what a word can hold, and those of a compare (R231i).
+// The answers of a read, which are what a word can hold, those of a compare, and those of an advance (R231i).
 fn read_says(answer: Answer) -> bool
     ensures { λ r. ⌜ r ≡ possible.readSays answer ⌝ }
 {
@@ -47,6 +48,7 @@ fn read_says(answer: Answer) -> bool
         Answer::False => false,
         Answer::True => false,
         Answer::Value(v) => word::value_of(v as u64) == v,
+        Answer::Was(_) => false,
     }
 }
 
@@ -57,6 +59,18 @@ fn compare_says(answer: Answer) -> bool
         Answer::False => true,
         Answer::True => true,
         Answer::Value(_) => false,
+        Answer::Was(_) => false,
+    }
+}
+
+fn advance_says(answer: Answer) -> bool
+    ensures { λ r. ⌜ r ≡ possible.advanceSays answer ⌝ }
+{
+    match answer {
+        Answer::False => false,
+        Answer::True => false,
+        Answer::Value(_) => false,
+        Answer::Was(v) => word::value_of(v as u64) == v,
     }
 }
 
@@ -69,6 +83,7 @@ fn has_answer(kind: Kind, answer: Maybe) -> bool
     match kind {
         Kind::Read => read_says(said),
         Kind::Compare => compare_says(said),
+        Kind::Advance => advance_says(said),
     }
 }
 

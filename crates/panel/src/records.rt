@@ -1,4 +1,5 @@
 // Between the lent list of records and the table by value.
+use machine::Kept;
 use machine::Maybe;
 use machine::Opened;
 use machine::Process;
@@ -28,7 +29,10 @@ fn empty() -> [Process; 16]
         opened: Opened::Closed,
         stored: Maybe::None,
         checkpoint: false,
-        kept: false,
+        kept: Kept {
+            bit: false,
+            value: 0,
+        },
         begun: 0,
     };
     [process; 16]

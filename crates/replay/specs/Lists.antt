@@ -1,7 +1,9 @@
--- Lists: what holds of all entries, the entries that pass a test (a filter), and the first of them. By induction on the list.
+-- Lists: what holds of all entries, the entries that pass a test (a filter), the first of them, and how many they are. By induction on the list.
+use Prim.Native.Nat.{ℕ, suc, _≤_}
 use mathlib.Core.Path.{_≡_, refl, sym, _∙_, ap}
-use mathlib.Core.Bool.{Bool, true, false, cond}
+use mathlib.Core.Bool.{Bool, true, false, cond, true≢false}
 use mathlib.Core.List.{List, [], _∷_, _++_}
+use native.Mathlib.Omega.{arith}
 
 module _ {A : Type 0} where
   abbrev pub All : (A → Type 0) → List A → Type 0
@@ -23,6 +25,10 @@ module _ {A : Type 0} where
   pub all-map : (P Q : A → Type 0) → ((x : A) → P x → Q x) → (l : List A) → All P l → All Q l
   all-map P Q f [] h = tt
   all-map P Q f (x ∷ l) h = (f x (h .0), all-map P Q f l (h .1))
+
+  pub all-of : (P : A → Type 0) → ((x : A) → P x) → (l : List A) → All P l
+  all-of P f [] = tt
+  all-of P f (x ∷ l) = (f x, all-of P f l)
 
   pub all-both : (P Q : A → Type 0) → (l : List A) → All P l → All Q l → All (λ x. P x × Q x) l
   all-both P Q [] h k = tt
@@ -104,3 +110,52 @@ module _ {A : Type 0} where
       go : (c : Bool) → f y ≡ c → cond c (y ∷ keep f l) (keep f l) ≡ x ∷ r → (keep f l ≡ x ∷ r → Found f l x) → Found f (y ∷ l) x
       go true q e ih = let yx : y ≡ x = cc in record { front = []; back = l; whole = cc; passes = ap f (sym yx) ∙ q; none = tt }
       go false q e ih = let d : Found f l x = ih e in record { front = y ∷ d .front; back = d .back; whole = ap (λ l. y ∷ l) (d .whole); passes = d .passes; none = (q, d .none) }
+
+  -- how many pass
+  unfoldable pub many : (A → Bool) → List A → ℕ
+  many f [] = 0
+  many f (x ∷ l) = cond (f x) (suc (many f l)) (many f l)
+
+  -- one more in the middle: no fewer
+  pub many-put : (f : A → Bool) (a b : List A) (x : A) → many f (a ++ b) ≤ many f (a ++ x ∷ b)
+  unfolding many
+  many-put f [] b x = go (f x)
+    where
+      go : (c : Bool) → many f b ≤ cond c (suc (many f b)) (many f b)
+      go true = omega arith
+      go false = omega arith
+  many-put f (y ∷ a) b x = go (f y) (many-put f a b x)
+    where
+      go : (c : Bool) → many f (a ++ b) ≤ many f (a ++ x ∷ b) → cond c (suc (many f (a ++ b))) (many f (a ++ b)) ≤ cond c (suc (many f (a ++ x ∷ b))) (many f (a ++ x ∷ b))
+      go true h = omega arith
+      go false h = h
+
+  -- a test that whatever passes another passes: no fewer, and more if one passes that does not pass the other
+  module _ (narrow f : A → Bool) where
+    one-le : (x : A) (m n : ℕ) → (narrow x ≡ true → f x ≡ true) → m ≤ n → cond (narrow x) (suc m) m ≤ cond (f x) (suc n) n
+    one-le x m n wider h = go (narrow x) refl (f x) refl
+      where
+        go : (c : Bool) → narrow x ≡ c → (d : Bool) → f x ≡ d → cond c (suc m) m ≤ cond d (suc n) n
+        go true q true r = omega arith
+        go true q false r = absurd (true≢false (sym (wider q) ∙ r))
+        go false q true r = omega arith
+        go false q false r = h
+
+    pub many-le : (l : List A) → All (λ x. narrow x ≡ true → f x ≡ true) l → many narrow l ≤ many f l
+    unfolding many
+    many-le [] wider = omega arith
+    many-le (x ∷ l) wider = one-le x (many narrow l) (many f l) (wider .0) (many-le l (wider .1))
+
+    pub many-less : (a b : List A) (x : A) → All (λ x. narrow x ≡ true → f x ≡ true) (a ++ x ∷ b) → narrow x ≡ false → f x ≡ true → suc (many narrow (a ++ x ∷ b)) ≤ many f (a ++ x ∷ b)
+    unfolding many
+    many-less [] b x wider n t = let h : many narrow b ≤ many f b = many-le b (wider .1) in rw (n, t) (omega arith)
+    many-less (y ∷ a) b x wider n t =
+        let h : suc (many narrow (a ++ x ∷ b)) ≤ many f (a ++ x ∷ b) = many-less a b x (wider .1) n t in
+        go (narrow y) refl (f y) refl h
+      where
+        go : (c : Bool) → narrow y ≡ c → (d : Bool) → f y ≡ d → suc (many narrow (a ++ x ∷ b)) ≤ many f (a ++ x ∷ b)
+            → suc (cond c (suc (many narrow (a ++ x ∷ b))) (many narrow (a ++ x ∷ b))) ≤ cond d (suc (many f (a ++ x ∷ b))) (many f (a ++ x ∷ b))
+        go true q true r h = omega arith
+        go true q false r h = absurd (true≢false (sym (wider .0 q) ∙ r))
+        go false q true r h = omega arith
+        go false q false r h = h

@@ -1,4 +1,4 @@
--- Plain words: values without flip bits, that are read, or compared and swapped, at one stroke (R244); and a log carried out on them (R245).
+-- Plain words: values without flip bits, that are read, compared and swapped, or added to, at one stroke (R244); and a log carried out on them (R245).
 use Prim.Native.Nat.{ℕ}
 use mathlib.Core.Path.{_≡_}
 use mathlib.Core.Bool.{cond}
@@ -7,7 +7,7 @@ use lib.Dec.{eqb}
 use lib.ListN.{getD, set}
 use Rattle.runfile.specs.declared.Row.{Row}
 use Rattle.runfile.specs.declared.Kind.{Kind}
-use Rattle.runfile.specs.declared.Kind.the-variants.{Read, Compare}
+use Rattle.runfile.specs.declared.Kind.the-variants.{Read, Compare, Advance}
 use Rattle.runfile.specs.Operations.{rowNumbered}
 use Rattle.runfile.specs.Kinds.{kindOf, newOf}
 use Rattle.rows.specs.declared.Entry.{Entry}
@@ -17,6 +17,7 @@ use Rattle.rows.specs.Entries.{Said, said, isSwapped}
 abbrev pub answerBy : Kind → (old v : ℕ) → Said
 answerBy Read old v = record { verdict = 3; value = v }
 answerBy Compare old v = cond (eqb v old) (record { verdict = 1; value = 0 }) (record { verdict = 0; value = 0 })
+answerBy Advance old v = record { verdict = 4; value = v }
 
 unfoldable pub answerOf : Row → ℕ → Said
 answerOf row v = answerBy (kindOf row) (row .old) v

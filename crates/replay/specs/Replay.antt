@@ -1,32 +1,87 @@
 -- What a log says, carried out in order on plain values (R245); and the lost swap (R167): from the time of the reading to the first later swap on
--- the word nothing changes it, so that swap found the old value and left another. No process, no stage and no flip bit comes into it.
-use Prim.Native.Nat.{ℕ, zero, suc, _^_, _≤_, _<_}
+-- the word nothing changes it, so that swap, a compare's or an advance's, found the old value and left another. No process, no stage and no flip bit
+-- comes into it.
+use Prim.Native.Nat.{ℕ, zero, suc, _+_, _-_, _%_, _^_, _≤_, _<_}
 use mathlib.Core.Path.{_≡_, refl, sym, _∙_, ap, ap₂, subst}
 use mathlib.Core.Bool.{Bool, true, false, cond, _&&_, true≢false}
 use mathlib.Core.List.{List, [], _∷_, _++_, append-nil}
 use native.Mathlib.Omega.{arith}
+use native.Mathlib.Nat.{mod-lt, mod-eq-of-lt, mod-eq-sub-mod}
+use lib.Pow.{pow-pos}
 use lib.Dec.{eqb, ltb}
 use lib.ListN.{length, getD, set, length-set}
 use lib.Seq.{getD-set-same, getD-set-other}
-use borrow.Author.Tests.{eq-eqb, eqb-true, ltb-true, lt-ltb}
+use borrow.Author.Tests.{eq-eqb, eqb-true, ltb-true, ltb-false, lt-ltb}
 use Rattle.rows.specs.declared.Entry.{Entry}
 use Rattle.runfile.specs.declared.Row.{Row}
 use Rattle.word.specs.Word.{width}
 use Rattle.runfile.specs.declared.Kind.{Kind}
-use Rattle.runfile.specs.declared.Kind.the-variants.{Read, Compare}
+use Rattle.runfile.specs.declared.Kind.the-variants.{Read, Compare, Advance}
 use Rattle.runfile.specs.Operations.{rowNumbered, names}
-use Rattle.runfile.specs.Kinds.{kindOf, newOf}
+use Rattle.runfile.specs.Kinds.{kindOf, newByIn, newOf}
+use Rattle.runfile.specs.Table.{Same, SameFields}
 use Rattle.rows.specs.Entries.{said, isSwapped}
 use Rattle.rows.specs.Log.{isSwap, firstSwap}
 use Rattle.replay.specs.Plain.{answerBy, answerOf, leaves, Replayed}
 use Rattle.replay.specs.Lists.{All, all-left, all-map, all-both, keep, keep-join, keep-keeps, keep-put-no, keep-put-yes, Found, keep-found}
 use Rattle.replay.specs.Logs.{isLate, isEarly, early-test, early-test-no, Ordered, Sorted, sorted-left, sorted-before, sorted-behind, early, late, early-all, early-none, early-low, late-high, early-join, early-late, Put}
 
+-- where a row of this kind swaps, of those values that its word may have: a compare at its old, an advance at every one
+abbrev pub GoesOn : Kind → (old v : ℕ) → Type 0
+GoesOn Read old v = ⊥
+GoesOn Compare old v = v ≡ old
+GoesOn Advance old v = Unit {0}
+
+-- what it answers there tells of a successful swap, and nowhere else does it
+pub answer-swapped : (row : Row) (v : ℕ) → isSwapped (answerOf row v) ≡ true → GoesOn (kindOf row) (row .old) v
+unfolding answerOf isSwapped
+answer-swapped row v = go (kindOf row)
+  where
+    met : (c : Bool) → eqb v (row .old) ≡ c → isSwapped (cond c (record { verdict = 1; value = 0 }) (record { verdict = 0; value = 0 })) ≡ true → v ≡ row .old
+    met true q h = eqb-true v (row .old) q
+    met false q h = absurd (true≢false (sym h))
+
+    go : (kind : Kind) → isSwapped (answerBy kind (row .old) v) ≡ true → GoesOn kind (row .old) v
+    go Read h = absurd (true≢false (sym h))
+    go Compare h = met (eqb v (row .old)) refl h
+    go Advance h = tt
+
 -- a row that passed the refusals, over W words
 pub record Good (W : ℕ) (row : Row) : Type 0 where
   pub inside : row .word < W
   pub fits : (v : ℕ) → newOf row v < 2 ^ width
   pub differ : (v : ℕ) → isSwapped (answerOf row v) ≡ true → newOf row v ≡ v → ⊥
+
+-- a sum that goes round past m is back where it began only after all of m
+moves-on : (m v n : ℕ) → n < m → (n ≡ 0 → ⊥) → (v + n) % m ≡ v → ⊥
+moves-on m v n small some e = go (ltb (v + n) m) refl
+  where
+    low : v < m
+    low = subst (λ x. x < m) e (mod-lt (v + n) (omega arith))
+
+    go : (c : Bool) → ltb (v + n) m ≡ c → ⊥
+    go true q = let same : v + n ≡ v = sym (mod-eq-of-lt (ltb-true (v + n) m q)) ∙ e in some (omega arith)
+    go false q =
+        let over : m ≤ v + n = ltb-false (v + n) m q in
+        let l : v < m = low in
+        let less : v + n - m < m = omega arith in
+        let same : v + n - m ≡ v = sym (mod-eq-of-lt less) ∙ sym (mod-eq-sub-mod over) ∙ e in
+        omega arith
+
+-- A row on one of W words, whose new is a value and for which refusal 11 is not given (R51), is good: where it swaps it leaves another value than it
+-- found, since an old is not new, and an amount is neither 0 nor as much as all the values
+pub good-row : (W : ℕ) (row : Row) → row .word < W → row .new < 2 ^ width → (SameFields row → ⊥) → Good W row
+good-row W row inside small differ = record { inside = inside; fits = fits (kindOf row); differ = λ v swaps. differs v (kindOf row) differ (answer-swapped row v swaps) }
+  where
+    fits : (kind : Kind) (v : ℕ) → newByIn width kind (row .new) v < 2 ^ width
+    fits Read v = small
+    fits Compare v = small
+    fits Advance v = mod-lt (v + row .new) (pow-pos width)
+
+    differs : (v : ℕ) (kind : Kind) → (Same kind (row .old) (row .new) → ⊥) → GoesOn kind (row .old) v → newByIn width kind (row .new) v ≡ v → ⊥
+    differs v Read apart on e = absurd on
+    differs v Compare apart on e = apart (sym on ∙ sym e)
+    differs v Advance apart on e = moves-on (2 ^ width) v (row .new) small apart e
 
 module _ (rows : List Row) where
   -- the values after an entry, after a log
@@ -139,19 +194,6 @@ module _ (rows : List Row) where
   unfolding early
   early-put-later q {l} {l′} e p h = rw (p .was, p .now) (keep-put-no (isEarly q) (p .front) (p .back) e (early-test-no q e h))
 
--- a successful swap: the row compares, and the value is its old
-pub answer-swapped : (row : Row) (v : ℕ) → isSwapped (answerOf row v) ≡ true → (kindOf row ≡ Compare) × (v ≡ row .old)
-unfolding answerOf isSwapped
-answer-swapped row v = go (kindOf row) refl
-  where
-    met : (c : Bool) → eqb v (row .old) ≡ c → isSwapped (cond c (record { verdict = 1; value = 0 }) (record { verdict = 0; value = 0 })) ≡ true → v ≡ row .old
-    met true q h = eqb-true v (row .old) q
-    met false q h = absurd (true≢false (sym h))
-
-    go : (kind : Kind) → kindOf row ≡ kind → isSwapped (answerBy kind (row .old) v) ≡ true → (kindOf row ≡ Compare) × (v ≡ row .old)
-    go Read q h = absurd (true≢false (sym h))
-    go Compare q h = (q, met (eqb v (row .old)) refl h)
-
 pub both-true-0 : (b c : Bool) → (b && c) ≡ true → b ≡ true
 both-true-0 true c h = refl
 both-true-0 false c h = h
@@ -255,6 +297,8 @@ module _ (rows : List Row) (start : List ℕ) (good : (k : ℕ) → Good (length
       (early (x .position) n)
       (all-both (Ordered x) (λ y. y .position ≤ x .position) (early (x .position) n) (keep-keeps (Ordered x) (isEarly (x .position)) n (sorted-behind m n x s)) (early-low (x .position) n)))
 
+  -- So that swap left another value than it found. Here, and nowhere else, it is needed that a row that swaps leaves another (`differ`): that a
+  -- compare's old is not its new, and an advance's amount not 0 (R51)
   lost-at : (w a : ℕ) (m n : List Entry) (x : Entry) → Sorted (m ++ x ∷ n) → Right rows start (m ++ x ∷ n) → All (λ y. y .row < length rows) m → All (λ y. isSwap rows w a y ≡ false) m → SwapOn rows w a x
       → getD (final rows start (early (x .position) (m ++ x ∷ n))) w 0 ≡ getD (final rows start (early a (m ++ x ∷ n))) w 0 → ⊥
   unfolding final

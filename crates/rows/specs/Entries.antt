@@ -1,6 +1,6 @@
 -- A row of the log or of the answers, and what it says (R160, R161). An `Entry` is such a row, with any five numbers.
 use Prim.Native.Nat.{ℕ}
-use mathlib.Core.Bool.{Bool}
+use mathlib.Core.Bool.{Bool, _||_}
 use lib.Dec.{eqb}
 use Rattle.rows.specs.declared.Entry.{Entry}
 
@@ -12,6 +12,9 @@ pub record Said : Type 0 where
 abbrev pub said : Entry → Said
 said e = record { verdict = e .verdict; value = e .value }
 
--- the row tells of a successful swap: its verdict is 1, which no other answer has (R161)
+-- the verdicts of a successful swap: 1 is a compare's, 4 an advance's (R161); and that a row tells of one, which no other answer does
+abbrev pub swapVerdict : ℕ → Bool
+swapVerdict verdict = eqb verdict 1 || eqb verdict 4
+
 unfoldable pub isSwapped : Said → Bool
-isSwapped d = eqb (d .verdict) 1
+isSwapped d = swapVerdict (d .verdict)

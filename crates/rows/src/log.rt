@@ -7,6 +7,7 @@ ghost use Prim.Native.Nat.{_+_, _*_, _≤_};
 ghost use mathlib.Core.Path.{_≡_};
 ghost use lib.ListN.{length};
 ghost use Rattle.runfile.specs.Operations.{rowsFrom};
+ghost use Rattle.rows.specs.Entries.{swapVerdict};
 ghost use Rattle.rows.specs.Log.{isSwap};
 ghost use Rattle.rows.specs.Buffers.{entryAt, shifted};
 ghost use Rattle.rows.specs.Promises.{Places, Searched, FirstSwapped, Inserted};
@@ -53,6 +54,17 @@ pub fn insert_row(log: &mut [u32], rows: usize, entry: Entry)
     write_row(log, at, entry);
 }
 
+// Whether a verdict tells of a successful swap: a compare's or an advance's (R161).
+fn is_swapped(verdict: u32) -> bool
+    ensures { λ r. ⌜ r ≡ swapVerdict verdict ⌝ }
+{
+    match verdict {
+        1 => true,
+        4 => true,
+        _ => false,
+    }
+}
+
 // Whether row i of the log is such a swap as is sought (R168). The table is the part of the file with its rows, so
 // many bytes from one to the next; a row number past it names no row.
 fn is_swap_after(
@@ -67,10 +79,14 @@ fn is_swap_after(
     ensures { λ r. ⌜ r ≡ isSwap (rowsFrom stride (now (table .entry)) 0 operations) (sought .word) (sought .after) (entryAt (now (log .entry)) (i * 5)) ⌝ }
 {
     let at = i * 5;
-    if log[at + 3] != 1 {
+    let verdict = log[at + 3];
+    if verdict == 0 {
         return false;
     }
     if log[at] <= sought.after {
+        return false;
+    }
+    if !is_swapped(verdict) {
         return false;
     }
     let row = log[at + 2] as usize;

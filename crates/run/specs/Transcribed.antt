@@ -112,6 +112,12 @@ zero-byte new zero l = refl
 zero-byte new (suc zero) l = refl
 zero-byte new (suc (suc k)) l = absurd (omega arith)
 
+no-advance : (new k : ℕ) → k < 2 → rowOf (headerIn (narrowFile new)) (narrowFile new) k .kind ≡ 2 → ⊥
+unfolding headSize wordSize rowSize headerIn u16At rowAt
+no-advance new zero l e = omega arith
+no-advance new (suc zero) l e = omega arith
+no-advance new (suc (suc k)) l e = omega arith
+
 pub transcribed : (new : ℕ) → Transcribes (narrowFile new) (wideFile new)
 unfolding headSize wordSize rowSize newPlace headerIn u16At u32At u64At widened marked numberAt rowAt wordsOf
 transcribed new = record {
@@ -128,6 +134,7 @@ transcribed new = record {
   start-words = refl;
   row = row new;
   zero-byte = zero-byte new;
+  no-advance = no-advance new;
   schedule = refl;
 }
 

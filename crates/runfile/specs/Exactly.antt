@@ -13,7 +13,7 @@ use borrow.Author.Tests.{ltb-true, ltb-false, leb-true, leb-false, eqb-true, eqb
 use Rattle.runfile.specs.declared.Header.{Header}
 use Rattle.runfile.specs.declared.Row.{Row}
 use Rattle.runfile.specs.declared.Kind.{Kind}
-use Rattle.runfile.specs.declared.Kind.the-variants.{Read, Compare}
+use Rattle.runfile.specs.declared.Kind.the-variants.{Read, Compare, Advance}
 use Rattle.runfile.specs.declared.Field.{Field}
 use Rattle.runfile.specs.declared.Field.the-variants as field
 use Rattle.runfile.specs.declared.Room.{Room}
@@ -30,7 +30,7 @@ use Rattle.runfile.specs.Kinds.{kindOf}
 use Rattle.runfile.specs.Refusals.{placeOf, outOfRange, zeroOld, zeroNew, badField, badIn, sameBy, sameFields, badAction, badByte, foundIf, firstOffender, badFieldIn, firstBadField, firstRow, firstLaterRow, firstByte, whole, found, orElse, firstOf, inOrder, refusalOf}
 use Rattle.runfile.specs.Table.{Marked, BadField, BadIn, ZeroOld, ZeroNew, Same, SameFields, FirstBadField, BadByte, First, rowOf, zeroByteOf, byteOf, Given, Earlier}
 use Rattle.runfile.specs.Table as table
-use Rattle.runfile.specs.Lawful.{LawfulByte, of-one, of-all, has-mark, in-range, not-both, no-bad-field, lawful-byte, high-action, lawful}
+use Rattle.runfile.specs.Lawful.{LawfulByte, of-one, of-all, has-mark, in-range, neither, not-both, no-bad-field, lawful-byte, high-action, lawful}
 use Rattle.runfile.specs.Searches.{not-found, is-found, Earliest, earliest, found-earliest, found-none}
 use Rattle.runfile.specs.Order.{Clear, accepts, accepted}
 
@@ -95,6 +95,12 @@ both {s} {t} {A} a b = record {
   false-is = λ e h. b .false-is (not-both s t e (said-true s A a (h .0))) (h .1);
 }
 
+either : {s t : Bool} {A B : Type 0} → Tells s A → Tells t B → Tells (s || t) (A ⊎ B)
+either {s} {t} a b = record {
+  true-is = λ e. ⊎-elim (λ q. inl (a .true-is q)) (λ q. inr (b .true-is q)) (either-true s t e);
+  false-is = λ e h. let r = neither s t e in ⊎-elim (a .false-is (r .0)) (b .false-is (r .1)) h;
+}
+
 tells-mark : (f : List ℕ) → Tells (not (marked f)) (Marked f → ⊥)
 unfolding marked
 tells-mark f = record {
@@ -121,15 +127,17 @@ never = record { true-is = λ e. true≢false (sym e); false-is = λ _ h. h }
 tells-old : (kind : Kind) → Tells (zeroOld kind) (ZeroOld kind)
 tells-old Read = always
 tells-old Compare = never
+tells-old Advance = always
 
 tells-new : (kind : Kind) → Tells (zeroNew kind) (ZeroNew kind)
 tells-new Read = always
 tells-new Compare = never
+tells-new Advance = never
 
 tells-field : (h : Header) (row : Row) (z : ℕ) (x : Field) → Tells (badField h row z x) (BadField h row z x)
 unfolding badField
 tells-field h row z field.Process = at-least (h .processes) (row .process)
-tells-field h row z field.Kind = less 1 (row .kind)
+tells-field h row z field.Kind = either (both (equals (h .version) 1) (equals (row .kind) 2)) (less 2 (row .kind))
 tells-field h row z field.Word = at-least (h .words) (row .word)
 tells-field h row z field.ZeroByte = differs z 0
 tells-field h row z field.Old = both (tells-old (kindOf row)) (differs (row .old) 0)
@@ -196,6 +204,7 @@ tells-same row = go (kindOf row)
     go : (kind : Kind) → Tells (sameBy kind (row .old) (row .new)) (Same kind (row .old) (row .new))
     go Read = never
     go Compare = equals (row .old) (row .new)
+    go Advance = equals (row .new) 0
 
 bad-byte : (processes byte : ℕ) → badByte processes byte ≡ true → BadByte processes byte
 unfolding badByte

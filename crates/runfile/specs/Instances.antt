@@ -85,7 +85,7 @@ second-accepted = refl
 abbrev wideSlips : List (List ℕ)
 wideSlips =
     (2 ∷ 0 ∷ 0 ∷ 0 ∷ 0 ∷ 0 ∷ 0 ∷ 0 ∷ 0 ∷ 0 ∷ 0 ∷ 0 ∷ [])
-    ∷ (1 ∷ 2 ∷ 0 ∷ 0 ∷ 0 ∷ 0 ∷ 0 ∷ 0 ∷ 0 ∷ 0 ∷ 0 ∷ 0 ∷ [])
+    ∷ (1 ∷ 3 ∷ 0 ∷ 0 ∷ 0 ∷ 0 ∷ 0 ∷ 0 ∷ 0 ∷ 0 ∷ 0 ∷ 0 ∷ [])
     ∷ (1 ∷ 0 ∷ 1 ∷ 0 ∷ 0 ∷ 0 ∷ 0 ∷ 0 ∷ 0 ∷ 0 ∷ 0 ∷ 0 ∷ [])
     ∷ (1 ∷ 0 ∷ 0 ∷ 1 ∷ 0 ∷ 0 ∷ 0 ∷ 0 ∷ 0 ∷ 0 ∷ 0 ∷ 0 ∷ [])
     ∷ (1 ∷ 0 ∷ 0 ∷ 0 ∷ 0 ∷ 0 ∷ 0 ∷ 1 ∷ 0 ∷ 0 ∷ 0 ∷ 0 ∷ [])
@@ -100,6 +100,15 @@ wide-slips-refused = refl
 pub second-same : refusalOf (wideRows wideSound (1 ∷ 1 ∷ 0 ∷ 0 ∷ 7 ∷ 0 ∷ 0 ∷ 1 ∷ 7 ∷ 0 ∷ 0 ∷ 1 ∷ [])) enough ≡ Refused refusal.Same 31
 unfolding refusalOf headSize wordSize rowSize newPlace headerIn u16At u32At marked numberAt rowAt badField sameFields badByte firstBadField firstRow firstLaterRow firstByte
 second-same = refl
+
+-- process 1 advances: by 5, which is accepted; from old 1, which is refused by 9 at that field (R49e); by 0, which is refused by 11 at the row (R51)
+abbrev wideAdvance : (old amount : ℕ) → List ℕ
+wideAdvance old amount = 1 ∷ 2 ∷ 0 ∷ 0 ∷ old ∷ 0 ∷ 0 ∷ 0 ∷ amount ∷ 0 ∷ 0 ∷ 0 ∷ []
+
+pub advances-judged : map (λ row. refusalOf (wideRows wideSound row) enough) (wideAdvance 0 5 ∷ wideAdvance 1 5 ∷ wideAdvance 0 0 ∷ [])
+    ≡ Accepted (record { version = 2; processes = 2; words = 1; rows = 2; steps = 0 }) ∷ Refused refusal.Row 35 ∷ Refused refusal.Same 31 ∷ []
+unfolding refusalOf headSize wordSize rowSize newPlace headerIn u16At u32At marked numberAt rowAt badField sameFields badByte firstBadField firstRow firstLaterRow firstByte
+advances-judged = refl
 
 -- versions 0 and 3 are refused by 3 (R43)
 pub unknown-versions : map (λ v. refusalOf (83 ∷ 87 ∷ 82 ∷ v ∷ 0 ∷ 1 ∷ 1 ∷ 0 ∷ 0 ∷ 0 ∷ 0 ∷ []) enough) (0 ∷ 3 ∷ []) ≡ map (Refused refusal.Version) (0 ∷ 0 ∷ [])

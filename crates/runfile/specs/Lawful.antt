@@ -7,11 +7,11 @@ use mathlib.Core.List.{List}
 use native.Mathlib.Omega.{arith}
 use lib.Dec.{ltb, eqb}
 use lib.ListN.{getD, length, length-drop}
-use borrow.Author.Tests.{ltb-false, leb-false, eqb-false, eqb-true, not-false, ne-eqb, le-ltb, lt-leb}
+use borrow.Author.Tests.{ltb-false, leb-false, eqb-false, eqb-true, eq-eqb, not-false, ne-eqb, le-ltb, lt-leb}
 use Rattle.runfile.specs.declared.Header.{Header}
 use Rattle.runfile.specs.declared.Row.{Row}
 use Rattle.runfile.specs.declared.Kind.{Kind}
-use Rattle.runfile.specs.declared.Kind.the-variants.{Read, Compare}
+use Rattle.runfile.specs.declared.Kind.the-variants.{Read, Compare, Advance}
 use Rattle.runfile.specs.declared.Field.{Field}
 use Rattle.runfile.specs.declared.Field.the-variants as field
 use Rattle.runfile.specs.declared.Room.{Room}
@@ -42,7 +42,8 @@ pub record LawfulHead (h : Header) (f : List ℕ) : Type 0 where
 -- refusal 9 is not given for this row, with this zero byte
 pub record LawfulRow (h : Header) (row : Row) (zeroByte : ℕ) : Type 0 where
   pub process : row .process < h .processes
-  pub kind : row .kind ≤ 1
+  pub kind : row .kind ≤ 2
+  pub no-advance : h .version ≡ 1 → row .kind ≡ 2 → ⊥
   pub word : row .word < h .words
   pub zero-byte : zeroByte ≡ 0
   pub zero-old : zeroOld (kindOf row) ≡ true → row .old ≡ 0
@@ -128,7 +129,8 @@ pub lawful-row : (h : Header) (row : Row) (zeroByte : ℕ) → ((x : Field) → 
 unfolding badField
 lawful-row h row z clear = record {
   process = leb-false _ _ (clear field.Process);
-  kind = ltb-false _ _ (clear field.Kind);
+  kind = ltb-false _ _ (neither (eqb (h .version) 1 && eqb (row .kind) 2) (ltb 2 (row .kind)) (clear field.Kind) .1);
+  no-advance = λ one two. eqb-false (row .kind) 2 (not-both (eqb (h .version) 1) (eqb (row .kind) 2) (neither (eqb (h .version) 1 && eqb (row .kind) 2) (ltb 2 (row .kind)) (clear field.Kind) .0) (eq-eqb (h .version) 1 one)) two;
   word = leb-false _ _ (clear field.Word);
   zero-byte = eqb-true _ _ (not-false _ (clear field.ZeroByte));
   zero-old = λ q. eqb-true _ _ (not-false _ (not-both (zeroOld (kindOf row)) (not (eqb (row .old) 0)) (clear field.Old) q));
@@ -142,6 +144,7 @@ not-same row = go (kindOf row)
     go : (kind : Kind) → sameBy kind (row .old) (row .new) ≡ false → Same kind (row .old) (row .new) → ⊥
     go Read e h = h
     go Compare e h = eqb-false (row .old) (row .new) e h
+    go Advance e h = eqb-false (row .new) 0 e h
 
 -- from 3 on only 15 is an action (R72)
 pub high-action : (high : ℕ) → 3 ≤ high → actionOf high ≡ cond (eqb high 15) crashAll none

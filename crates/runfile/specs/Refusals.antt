@@ -8,7 +8,7 @@ use lib.ListN.{getD, length, take}
 use Rattle.runfile.specs.declared.Header.{Header}
 use Rattle.runfile.specs.declared.Row.{Row}
 use Rattle.runfile.specs.declared.Kind.{Kind}
-use Rattle.runfile.specs.declared.Kind.the-variants.{Read, Compare}
+use Rattle.runfile.specs.declared.Kind.the-variants.{Read, Compare, Advance}
 use Rattle.runfile.specs.declared.Field.{Field}
 use Rattle.runfile.specs.declared.Field.the-variants as field
 use Rattle.runfile.specs.declared.Room.{Room}
@@ -52,15 +52,17 @@ outOfRange n = eqb n 0 || ltb 16 n
 
 -- which numbers are no kinds in a version (R49b), which kinds must have old 0 (R49e) and which new 0 (R49f)
 abbrev pub badKind : ℕ → ℕ → Bool
-badKind version kind = ltb 1 kind
+badKind version kind = (eqb version 1 && eqb kind 2) || ltb 2 kind
 
 abbrev pub zeroOld : Kind → Bool
 zeroOld Read = true
 zeroOld Compare = false
+zeroOld Advance = true
 
 abbrev pub zeroNew : Kind → Bool
 zeroNew Read = true
 zeroNew Compare = false
+zeroNew Advance = false
 
 -- 9: whether a field of a row is faulty, a line for each field (R49a to R49f)
 abbrev pub badNumber : Bool → ℕ → Bool
@@ -81,10 +83,11 @@ badIn h stride f start k = badField h (rowIn stride f start k) (zeroByteAt f (ro
 abbrev pub below : ℕ → List ℕ → ℕ → ℕ → Bool
 below stride f start k = ltb (rowIn stride f start k .process) (rowIn stride f start (k - 1) .process)
 
--- 11: old and new are alike in a row that compares (R51)
+-- 11: old and new are alike in a row that compares, or the amount of one that advances is 0 (R51)
 abbrev pub sameBy : Kind → (old new : ℕ) → Bool
 sameBy Read old new = false
 sameBy Compare old new = eqb old new
+sameBy Advance old new = eqb new 0
 
 unfoldable pub sameFields : Row → Bool
 sameFields row = sameBy (kindOf row) (row .old) (row .new)

@@ -8,7 +8,7 @@ use lib.ListN.{getD, length, take}
 use Rattle.runfile.specs.declared.Header.{Header}
 use Rattle.runfile.specs.declared.Row.{Row}
 use Rattle.runfile.specs.declared.Kind.{Kind}
-use Rattle.runfile.specs.declared.Kind.the-variants.{Read, Compare}
+use Rattle.runfile.specs.declared.Kind.the-variants.{Read, Compare, Advance}
 use Rattle.runfile.specs.declared.Field.{Field}
 use Rattle.runfile.specs.declared.Field.the-variants as field
 use Rattle.runfile.specs.declared.Room.{Room}
@@ -25,15 +25,17 @@ Marked f = (byteAt f 0 ≡ 83) × (byteAt f 1 ≡ 87) × (byteAt f 2 ≡ 82)
 
 -- 9: which numbers are no kinds, which kinds must have old 0 and which new 0; and a field of a row is faulty, field by field (R49a to R49f)
 abbrev pub BadKind : ℕ → ℕ → Type 0
-BadKind version kind = 1 < kind
+BadKind version kind = ((version ≡ 1) × (kind ≡ 2)) ⊎ (2 < kind)
 
 abbrev pub ZeroOld : Kind → Type 0
 ZeroOld Read = Unit
 ZeroOld Compare = ⊥
+ZeroOld Advance = Unit
 
 abbrev pub ZeroNew : Kind → Type 0
 ZeroNew Read = Unit
 ZeroNew Compare = ⊥
+ZeroNew Advance = ⊥
 
 abbrev pub BadField : Header → Row → ℕ → Field → Type 0
 BadField h row zeroByte field.Process = h .processes ≤ row .process
@@ -43,10 +45,11 @@ BadField h row zeroByte field.ZeroByte = zeroByte ≡ 0 → ⊥
 BadField h row zeroByte field.Old = ZeroOld (kindOf row) × (row .old ≡ 0 → ⊥)
 BadField h row zeroByte field.New = ZeroNew (kindOf row) × (row .new ≡ 0 → ⊥)
 
--- 11: old and new are alike in a row that compares (R51)
+-- 11: old and new are alike in a row that compares, or the amount of one that advances is 0 (R51)
 abbrev pub Same : Kind → (old new : ℕ) → Type 0
 Same Read old new = ⊥
 Same Compare old new = old ≡ new
+Same Advance old new = new ≡ 0
 
 abbrev pub SameFields : Row → Type 0
 SameFields row = Same (kindOf row) (row .old) (row .new)

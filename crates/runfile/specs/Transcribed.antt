@@ -2,7 +2,7 @@
 -- those of the same row, field or schedule byte (`checked-alike`). Check by check the two searches find alike, then the list of checks does.
 use Prim.Native.Nat.{ℕ, zero, suc, _+_, _*_, _-_, _≤_, _<_}
 use mathlib.Core.Path.{_≡_, refl, sym, ap, ap₂, subst, _∙_}
-use mathlib.Core.Bool.{Bool, true, false, not}
+use mathlib.Core.Bool.{Bool, true, false, not, _&&_, _||_, and-false}
 use mathlib.Core.List.{List, [], _∷_}
 use native.Mathlib.Omega.{arith}
 use native.Mathlib.Nat.{zero-mul, suc-mul}
@@ -25,11 +25,11 @@ use Rattle.runfile.specs.Layout.{marked, headerIn, rowsStart, strideOf, 
 use Rattle.runfile.specs.Fields.{fields, fieldAt}
 use Rattle.runfile.specs.Kinds.{kindOf}
 use Rattle.runfile.specs.Operations.{wordsOf, rowsFrom, tableOf}
-use Rattle.runfile.specs.Refusals.{unknownVersion, outOfRange, zeroOld, zeroNew, badNumber, badField, badIn, sameFields, same, below, badByte, orLater, firstFound, foundIf, badFieldIn, firstBadField, firstRow, firstLaterRow, firstByte, whole, found, orElse, firstOf, inOrder, refusalOf}
+use Rattle.runfile.specs.Refusals.{unknownVersion, outOfRange, badKind, zeroOld, zeroNew, badNumber, badField, badIn, sameFields, same, below, badByte, orLater, firstFound, foundIf, badFieldIn, firstBadField, firstRow, firstLaterRow, firstByte, whole, found, orElse, firstOf, inOrder, refusalOf}
 use Rattle.runfile.specs.Table.{rowOf, zeroByteOf}
 
 -- f is a file of version 1, and g the same in version 2: the same mark and counts, the words as they are read, the rows and the schedule;
--- what f's length lacks or has too much, g's does
+-- what f's length lacks or has too much, g's does. No row is of kind 2, which version 2 has and version 1 has not (R49b)
 pub record Transcribes (f g : List ℕ) : Type 0 where
   pub first : headerIn f .version ≡ 1
   pub second : headerIn g .version ≡ 2
@@ -44,6 +44,7 @@ pub record Transcribes (f g : List ℕ) : Type 0 where
   pub start-words : wordsOf (headerIn f) f ≡ wordsOf (headerIn g) g
   pub row : (k : ℕ) → k < headerIn f .rows → rowOf (headerIn f) f k ≡ rowOf (headerIn g) g k
   pub zero-byte : (k : ℕ) → k < headerIn f .rows → zeroByteOf (headerIn f) f k ≡ zeroByteOf (headerIn g) g k
+  pub no-advance : (k : ℕ) → k < headerIn f .rows → rowOf (headerIn f) f k .kind ≡ 2 → ⊥
   pub schedule : scheduleIn (headerIn f) f ≡ scheduleIn (headerIn g) g
 
 -- places in files with these headers that are of the same row, of the same field of the same row, of the same schedule byte
@@ -146,15 +147,23 @@ tied n given m wide e = go (eqb n given) refl
     go true q = sym (eq-eqb m wide (let x = eqb-true n given q in omega arith))
     go false q = sym (ne-eqb m wide (λ x. eqb-false n given q (omega arith)))
 
--- a field's test looks at P, W, the row and its zero byte
-field-alike : (a b : Header) (r s : Row) (y z : ℕ) → a .processes ≡ b .processes → a .words ≡ b .words → r ≡ s → y ≡ z → (x : Field) → badField a r y x ≡ badField b s z x
+-- where a row is of another kind than 2, the version has no part in which kinds there are
+kind-alike : (a b : Header) (r s : Row) → r ≡ s → (r .kind ≡ 2 → ⊥) → badKind (a .version) (r .kind) ≡ badKind (b .version) (s .kind)
+kind-alike a b r s e other =
+    ap (λ t. (eqb (a .version) 1 && t) || ltb 2 (r .kind)) (ne-eqb (r .kind) 2 other)
+    ∙ ap (λ t. t || ltb 2 (r .kind)) (and-false (eqb (a .version) 1) ∙ sym (and-false (eqb (b .version) 1)))
+    ∙ ap (λ t. (eqb (b .version) 1 && t) || ltb 2 (r .kind)) (sym (ne-eqb (r .kind) 2 other))
+    ∙ ap (λ (u : Row). badKind (b .version) (u .kind)) e
+
+-- a field's test looks at P, W, the row and its zero byte, and for kind 2 at the version
+field-alike : (a b : Header) (r s : Row) (y z : ℕ) → a .processes ≡ b .processes → a .words ≡ b .words → r ≡ s → (r .kind ≡ 2 → ⊥) → y ≡ z → (x : Field) → badField a r y x ≡ badField b s z x
 unfolding badField
-field-alike a b r s y z p w e o field.Process = ap₂ leb p (ap (λ (u : Row). u .process) e)
-field-alike a b r s y z p w e o field.Kind = ap (λ (u : Row). ltb 1 (u .kind)) e
-field-alike a b r s y z p w e o field.Word = ap₂ leb w (ap (λ (u : Row). u .word) e)
-field-alike a b r s y z p w e o field.ZeroByte = ap (λ u. not (eqb u 0)) o
-field-alike a b r s y z p w e o field.Old = ap (λ (u : Row). badNumber (zeroOld (kindOf u)) (u .old)) e
-field-alike a b r s y z p w e o field.New = ap (λ (u : Row). badNumber (zeroNew (kindOf u)) (u .new)) e
+field-alike a b r s y z p w e other o field.Process = ap₂ leb p (ap (λ (u : Row). u .process) e)
+field-alike a b r s y z p w e other o field.Kind = kind-alike a b r s e other
+field-alike a b r s y z p w e other o field.Word = ap₂ leb w (ap (λ (u : Row). u .word) e)
+field-alike a b r s y z p w e other o field.ZeroByte = ap (λ u. not (eqb u 0)) o
+field-alike a b r s y z p w e other o field.Old = ap (λ (u : Row). badNumber (zeroOld (kindOf u)) (u .old)) e
+field-alike a b r s y z p w e other o field.New = ap (λ (u : Row). badNumber (zeroNew (kindOf u)) (u .new)) e
 
 module _ (f g : List ℕ) (t : Transcribes f g) where
   abbrev a : Header
@@ -176,7 +185,7 @@ module _ (f g : List ℕ) (t : Transcribes f g) where
   in-row k l =
       search-alike (SameField a b) (λ i. foundIf (bad k i) (place a k i)) (λ i. foundIf (wideBad k i) (place b k i)) 0 (length fields)
       (λ i c d. one-alike (SameField a b) (bad k i) (wideBad k i) (place a k i) (place b k i)
-      (field-alike a b (rowOf a f k) (rowOf b g k) (zeroByteOf a f k) (zeroByteOf b g k) (t .processes) (t .words) (t .row k l) (t .zero-byte k l) (fieldAt i))
+      (field-alike a b (rowOf a f k) (rowOf b g k) (zeroByteOf a f k) (zeroByteOf b g k) (t .processes) (t .words) (t .row k l) (t .no-advance k l) (t .zero-byte k l) (fieldAt i))
       (record { which = k; within = l; field = fieldAt i; here = refl; there = refl }))
 
   fields-alike : FoundAlike (SameField a b) (firstBadField a (strideOf a) f (rowsStart a) (a .rows)) (firstBadField b (strideOf b) g (rowsStart b) (b .rows))

@@ -5,12 +5,13 @@ ghost use mathlib.Core.Path.{_≡_};
 ghost use Rattle.runfile.specs.Kinds.{kindNumbered};
 ghost use Rattle.runfile.specs.Promises.{KindRead};
 
-// Kind 0 reads (R11); a number that is no kind's is refused under 9 (R49b), and goes with 1 elsewhere.
+// Kind 0 reads, kind 2 advances (R11); a number that is no kind's is refused under 9 (R49b), and goes with 1 elsewhere.
 pub fn kind_numbered(number: u8) -> Kind
     ensures { λ r. ⌜ r ≡ kindNumbered number ⌝ }
 {
     match number {
         0 => Kind::Read,
+        2 => Kind::Advance,
         _ => Kind::Compare,
     }
 }

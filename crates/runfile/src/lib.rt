@@ -50,10 +50,11 @@ pub struct Header {
     pub steps: u16,
 }
 
-// What an operation does: kind 0 reads, kind 1 compares and swaps (R11).
+// What an operation does: kind 0 reads, kind 1 compares and swaps, kind 2 advances a mark (R11).
 pub enum Kind {
     Read,
     Compare,
+    Advance,
 }
 
 // An operation, with the number of its kind. Old and new of version 1, of two bytes each, are widened (R10).

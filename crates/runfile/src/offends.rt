@@ -13,7 +13,7 @@ ghost use lib.ListN.{length};
 ghost use Rattle.runfile.specs.Format.{numberSize, RowSize, longestOfAll};
 ghost use Rattle.runfile.specs.Layout.{numberAt, rowAt, rowPlace, zeroByteAt};
 ghost use Rattle.runfile.specs.Promises.{ByteJudged};
-ghost use Rattle.runfile.specs.Refusals.{zeroOld, zeroNew, badNumber, badField, sameFields, badByte, below, same, firstBadField, firstRow, firstLaterRow, firstByte};
+ghost use Rattle.runfile.specs.Refusals.{badKind, zeroOld, zeroNew, badNumber, badField, sameFields, badByte, below, same, firstBadField, firstRow, firstLaterRow, firstByte};
 
 // The order in which a row's fields are looked at: that of the file (R36).
 const FIELDS: [Field; 6] = [
@@ -25,6 +25,17 @@ const FIELDS: [Field; 6] = [
     Field::New,
 ];
 
+// Which numbers are no kinds: 2 is one in version 2 alone (R49b).
+fn is_bad_kind(version: u16, kind: u8) -> bool
+    ensures { λ r. ⌜ r ≡ badKind version kind ⌝ }
+{
+    match kind {
+        0..=1 => false,
+        2 => version == 1,
+        _ => true,
+    }
+}
+
 // Which kinds must have old 0 (R49e), and which new 0 (R49f).
 fn has_zero_old(kind: Kind) -> bool
     ensures { λ r. ⌜ r ≡ zeroOld kind ⌝ }
@@ -32,6 +43,7 @@ fn has_zero_old(kind: Kind) -> bool
     match kind {
         Kind::Read => true,
         Kind::Compare => false,
+        Kind::Advance => true,
     }
 }
 
@@ -41,6 +53,7 @@ fn has_zero_new(kind: Kind) -> bool
     match kind {
         Kind::Read => true,
         Kind::Compare => false,
+        Kind::Advance => false,
     }
 }
 
@@ -62,7 +75,7 @@ fn is_bad_field(file: &[u8], at: usize, stride: usize, field: Field, header: Hea
 {
     match field {
         Field::Process => file[at] >= header.processes,
-        Field::Kind => file[at + 1] > 1,
+        Field::Kind => is_bad_kind(header.version, file[at + 1]),
         Field::Word => file[at + 2] >= header.words,
         Field::ZeroByte => file[at + 3] != 0,
         Field::Old => {
@@ -88,6 +101,7 @@ fn is_same(file: &[u8], at: usize, stride: usize) -> bool
             let new = number_at(file, at + new_place(stride), stride);
             number_at(file, at + 4, stride) == new
         }
+        Kind::Advance => number_at(file, at + new_place(stride), stride) == 0,
     }
 }
 

@@ -1,6 +1,6 @@
 // A word that survives a crash: a value in its low bits (R14), and above it a flip bit for each process (R15).
 ghost use Prim.Native.Nat.{_<_};
-ghost use Rattle.word.specs.Promises.{Valued, HasFlips, Flipped, Swapped};
+ghost use Rattle.word.specs.Promises.{Valued, HasFlips, Flipped, Swapped, Summed};
 
 // How many bits of a word are its value, and how many values they hold (R14).
 const WIDTH: u32 = 32;
@@ -37,4 +37,11 @@ pub fn swapped_of(process: u32, new: u32, word: u64) -> u64
     let turned = word ^ own;
     let value = value_of(turned) as u64;
     turned - value + new as u64
+}
+
+// A value moved on by an amount: past the largest value it goes round to 0, as the sequence numbers of TCP do (R117).
+pub fn sum_of(value: u32, amount: u32) -> u32
+    ensures { λ r. ⌜ Summed value amount r ⌝ }
+{
+    std::num::wrapping_add_u32(value, amount)
 }

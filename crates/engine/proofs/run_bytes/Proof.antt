@@ -13,7 +13,9 @@ use types.Run.{OneOf}
 use denote.Enum.Declared.{tagOf}
 use Rattle.machine.proofs.Status.{the-type}
 use Rattle.runfile.specs.declared.Row.{Row}
+use Rattle.runfile.specs.declared.Kind.{Kind}
 use Rattle.runfile.specs.Actions.{named}
+use Rattle.runfile.specs.Kinds.{kindOf}
 use Rattle.runfile.specs.Layout.{rowOfTable}
 use Rattle.runfile.specs.Operations.{rowsFrom, rowNumbered, first, count}
 use Rattle.runfile.specs.OperationLaws.{length-rowsFrom}
@@ -21,7 +23,6 @@ use Rattle.runfile.specs.Shares.{Counted, has-row, last-fits, first-at, sum-fit
 use Rattle.machine.specs.declared.Process.{Process}
 use Rattle.engine.specs.declared.Standing.{Standing}
 use Rattle.machine.specs.declared.Maybe.the-variants.{Is}
-use Rattle.machine.specs.declared.Answer.the-variants.{True}
 use Rattle.machine.specs.declared.Status.{Status}
 use Rattle.machine.specs.declared.Status.the-variants.{Down, Idle, N2, N3, Busy}
 use Rattle.machine.specs.Records.{nobody, rowOpen, waked, WorkOpen, Announcing}
@@ -184,6 +185,10 @@ row-found b = let l = head (turn-at b) in ap (λ (k : ℕ). rowOfTable (stride l
 row-numbered : (b : tie.After-stage-number Inv-loop μ-loop) → (let l = head (turn-at b) in rowOfTable (stride l) (table l) (b .before .before .open-row .result) ≡ rowNumbered (rows l) (K b))
 row-numbered b = let l = head (turn-at b) in ap (λ (k : ℕ). rowOfTable (stride l) (table l) k) (row-no b) ∙ row-is (stride l) (table l) (n l) (K b) (open-in b)
 
+-- the kind that is read of it
+kind-found : (b : tie.After-stage-number Inv-loop μ-loop) (found : Row) (kind : Kind) → (let l = head (turn-at b) in found ≡ rowOfTable (stride l) (table l) (b .before .index16 .result) → kind ≡ kindOf found → kind ≡ kindOf (rowNumbered (rows l) (K b)))
+kind-found b found kind f k = k ∙ ap kindOf (f ∙ row-found b)
+
 reach : (b : tie.After-stage-number Inv-loop μ-loop) → Reach (stride (head (turn-at b))) (table (head (turn-at b))) (b .before .index16 .result) (head (turn-at b) .loop .words)
 reach b =
     let l = head (turn-at b) in
@@ -285,9 +290,9 @@ loop-less-2 : tie.Need-loop-less-2 Inv-loop μ-loop
 loop-less-2 c = search needs
 
 loop-again-2 : tie.Need-loop-again-2 Inv-loop μ-loop
-loop-again-2 c = let s = c .before .before .before .before .before .before in
+loop-again-2 c = let s = c .before .before .before .before .before .before .before in
     let x = s .before in
-    hold-record (head x .loop .inv) (meets x) (low s) (here x) (is s) _ (at-idle (head x .loop .inv) (meets x) (low s) (here x) (is s) (c .before .before .before .enum-told2 .given .1) _ (counts-are x) (c .if1 .taken))
+    hold-record (head x .loop .inv) (meets x) (low s) (here x) (is s) _ (at-idle (head x .loop .inv) (meets x) (low s) (here x) (is s) (c .before .before .before .before .enum-told2 .given .1) _ (counts-are x) (c .before .if1 .taken))
 
 loop-less-3 : tie.Need-loop-less-3 Inv-loop μ-loop
 loop-less-3 c = search needs
@@ -316,9 +321,9 @@ loop-less-4 : tie.Need-loop-less-4 Inv-loop μ-loop
 loop-less-4 c = search needs
 
 loop-again-4 : tie.Need-loop-again-4 Inv-loop μ-loop
-loop-again-4 c = let s = c .before .before .before .before in
+loop-again-4 c = let s = c .before .before .before .before .before in
     let x = s .before in
-    hold-record (head x .loop .inv) (meets x) (low s) (here x) (is s) _ (at-N2 (head x .loop .inv) (meets x) (low s) (here x) (is s) (c .before .enum-told3 .given .1))
+    hold-record (head x .loop .inv) (meets x) (low s) (here x) (is s) _ (at-N2 (head x .loop .inv) (meets x) (low s) (here x) (is s) (c .before .before .enum-told3 .given .1))
 
 enum-told-4 : tie.Need-enum-told-4 Inv-loop μ-loop
 enum-told-4 c = search needs
@@ -396,19 +401,31 @@ loop-less-6 : tie.Need-loop-less-6 Inv-loop μ-loop
 loop-less-6 c = search needs
 
 loop-again-6 : tie.Need-loop-again-6 Inv-loop μ-loop
-loop-again-6 c = let b = c .before .before .before .before .before in
+loop-again-6 c = let b = c .before .before .before .before .before .before in
     let s = step-at b in
     let x = s .before in
-    hold-record (head x .loop .inv) (meets x) (low s) (here x) (is s) _ (at-A1 (head x .loop .inv) (meets x) (low s) (here x) (is s) (b .before .before .before .before .before .status .given .1) (busy-is b) _ (b .stage-number .ensures) (c .before .before .before .before .match3 .keys1) _ _ _ (c .before .before .before .row-at .ensures ∙ row-found b) (word-is b _ (c .before .word-now .ensures)) (c .after-read .ensures))
+    hold-record (head x .loop .inv) (meets x) (low s) (here x) (is s) _ (at-A1 (head x .loop .inv) (meets x) (low s) (here x) (is s) (b .before .before .before .before .before .status .given .1) (busy-is b) _ (b .stage-number .ensures) (c .before .before .before .before .before .match3 .keys1) _ _ _ (c .before .before .before .before .row-at .ensures ∙ row-found b) (word-is b _ (c .before .before .word-now .ensures)) (c .before .after-read .ensures))
 
 busy-requires : tie.Need-busy-requires Inv-loop μ-loop
 busy-requires c κs = search needs
+
+row-at-requires-2 : tie.Need-row-at-requires-2 Inv-loop μ-loop
+row-at-requires-2 c κs = reach (c .before .before) .row
+
+kind-of-requires : tie.Need-kind-of-requires Inv-loop μ-loop
+kind-of-requires c κs = search needs
 
 cast-bit-of : tie.Need-cast-bit-of Inv-loop μ-loop
 cast-bit-of c = search needs
 
 bit-of-requires : tie.Need-bit-of-requires Inv-loop μ-loop
 bit-of-requires c κs = search needs
+
+value-of-requires : tie.Need-value-of-requires Inv-loop μ-loop
+value-of-requires c κs = search needs
+
+keep-requires : tie.Need-keep-requires Inv-loop μ-loop
+keep-requires c κs = search needs
 
 mul-processes-5 : tie.Need-mul-processes-5 Inv-loop μ-loop
 mul-processes-5 c = search needs
@@ -420,10 +437,10 @@ loop-less-7 : tie.Need-loop-less-7 Inv-loop μ-loop
 loop-less-7 c = search needs
 
 loop-again-7 : tie.Need-loop-again-7 Inv-loop μ-loop
-loop-again-7 c = let b = c .before .before .before in
+loop-again-7 c = let b = c .before .before .before .before .before .before .before in
     let s = step-at b in
     let x = s .before in
-    hold-record (head x .loop .inv) (meets x) (low s) (here x) (is s) _ (at-A2 (head x .loop .inv) (meets x) (low s) (here x) (is s) (b .before .before .before .before .before .status .given .1) (busy-is b) _ (b .stage-number .ensures) (c .before .before .match3 .keys2) _ _ (c .bit-of .ensures) (c .before .busy .ensures))
+    hold-record (head x .loop .inv) (meets x) (low s) (here x) (is s) _ (at-A2 (head x .loop .inv) (meets x) (low s) (here x) (is s) (b .before .before .before .before .before .status .given .1) (busy-is b) _ (b .stage-number .ensures) (c .before .before .before .before .before .before .match3 .keys2) _ (kind-found b _ _ (c .before .before .before .before .row-at2 .ensures) (c .before .before .before .kind-of .ensures)) _ _ (c .before .before .bit-of .ensures) (c .before .value-of .ensures) _ (c .keep .ensures) _ (c .before .before .before .before .before .busy .ensures))
 
 busy-requires-2 : tie.Need-busy-requires-2 Inv-loop μ-loop
 busy-requires-2 c κs = search needs
@@ -438,13 +455,25 @@ loop-less-8 : tie.Need-loop-less-8 Inv-loop μ-loop
 loop-less-8 c = search needs
 
 loop-again-8 : tie.Need-loop-again-8 Inv-loop μ-loop
-loop-again-8 c = let b = c .before .before in
+loop-again-8 c = let b = c .before .before .before in
     let s = step-at b in
     let x = s .before in
-    hold-record (head x .loop .inv) (meets x) (low s) (here x) (is s) _ (at-A3 (head x .loop .inv) (meets x) (low s) (here x) (is s) (b .before .before .before .before .before .status .given .1) (busy-is b) _ (b .stage-number .ensures) (c .before .match3 .keys3) _ (c .busy2 .ensures))
+    hold-record (head x .loop .inv) (meets x) (low s) (here x) (is s) _ (at-A3 (head x .loop .inv) (meets x) (low s) (here x) (is s) (b .before .before .before .before .before .status .given .1) (busy-is b) _ (b .stage-number .ensures) (c .before .before .match3 .keys3) _ (c .before .busy2 .ensures))
+
+row-at-requires-3 : tie.Need-row-at-requires-3 Inv-loop μ-loop
+row-at-requires-3 c κs = reach (c .before) .row
+
+kind-of-requires-2 : tie.Need-kind-of-requires-2 Inv-loop μ-loop
+kind-of-requires-2 c κs = search needs
 
 word-now-requires-2 : tie.Need-word-now-requires-2 Inv-loop μ-loop
-word-now-requires-2 c κs = reach (c .before .before)
+word-now-requires-2 c κs = reach (c .before .before .before .before)
+
+value-of-requires-2 : tie.Need-value-of-requires-2 Inv-loop μ-loop
+value-of-requires-2 c κs = search needs
+
+swap-says-requires : tie.Need-swap-says-requires Inv-loop μ-loop
+swap-says-requires c κs = search needs
 
 busy-requires-3 : tie.Need-busy-requires-3 Inv-loop μ-loop
 busy-requires-3 c κs = search needs
@@ -455,8 +484,8 @@ mul-processes-7 c = search needs
 array-set-from-processes-7 : tie.Need-array-set-from-processes-7 Inv-loop μ-loop
 array-set-from-processes-7 c = search needs
 
-row-at-requires-2 : tie.Need-row-at-requires-2 Inv-loop μ-loop
-row-at-requires-2 c κs = reach (c .before .before .before .before .before) .row
+put-in-requires : tie.Need-put-in-requires Inv-loop μ-loop
+put-in-requires c κs = search needs
 
 cast-swapped-of : tie.Need-cast-swapped-of Inv-loop μ-loop
 cast-swapped-of c = search needs
@@ -465,22 +494,22 @@ swapped-of-requires : tie.Need-swapped-of-requires Inv-loop μ-loop
 swapped-of-requires c κs = search needs
 
 store-word-requires : tie.Need-store-word-requires Inv-loop μ-loop
-store-word-requires c κs = reach (c .before .before .before .before .before .before .before .before)
+store-word-requires c κs = reach (c .before .before .before .before .before .before .before .before .before .before .before .before .before)
 
 cast-entry-of : tie.Need-cast-entry-of Inv-loop μ-loop
-cast-entry-of c = position-fits (turn-at (c .before .before .before .before .before .before .before .before .before .before .before))
+cast-entry-of c = position-fits (turn-at (c .before .before .before .before .before .before .before .before .before .before .before .before .before .before .before .before))
 
 entry-of-requires : tie.Need-entry-of-requires Inv-loop μ-loop
 entry-of-requires c κs = search needs
 
 insert-row-requires : tie.Need-insert-row-requires Inv-loop μ-loop
-insert-row-requires c κs = log-room (turn-at (c .before .before .before .before .before .before .before .before .before .before .before .before .before))
+insert-row-requires c κs = log-room (turn-at (c .before .before .before .before .before .before .before .before .before .before .before .before .before .before .before .before .before .before))
 
 add-log-rows : tie.Need-add-log-rows Inv-loop μ-loop
-add-log-rows c = let f = rows-fit (turn-at (c .before .before .before .before .before .before .before .before .before .before .before .before .before .before .before .before)) .fits in record { fits = omega arith }
+add-log-rows c = let f = rows-fit (turn-at (c .before .before .before .before .before .before .before .before .before .before .before .before .before .before .before .before .before .before .before .before .before)) .fits in record { fits = omega arith }
 
 loop-less-9 : tie.Need-loop-less-9 Inv-loop μ-loop
-loop-less-9 c = let i = inside (turn-at (c .before .before .before .before .before .before .before .before .before .before .before .before .before .before .before .before)) in
+loop-less-9 c = let i = inside (turn-at (c .before .before .before .before .before .before .before .before .before .before .before .before .before .before .before .before .before .before .before .before .before)) in
     omega arith
 
 loop-again-9 : tie.Need-loop-again-9 Inv-loop μ-loop
@@ -488,22 +517,26 @@ loop-again-9 c = let ir = c .before .before in
     let eo = ir .before .before in
     let pw = eo .before .before .before in
     let sw = pw .before .before in
-    let ra = sw .before in
-    let bu = ra .before in
-    let wn = bu .before .before in
-    let b = wn .before .before .before in
+    let pi = sw .before in
+    let bu = pi .before .before in
+    let sa = bu .before in
+    let vo = sa .before in
+    let wn = vo .before .before in
+    let ko = wn .before .before in
+    let ra = ko .before in
+    let b = ra .before .before in
     let s = step-at b in
     let x = s .before in
     let l = head x in
-    hold-won (head x .loop .inv) (meets x) (low s) (here x) (is s) _ _ (eo .entry-of .result) _ _
-    (at-won (head x .loop .inv) (meets x) (low s) (here x) (is s) (b .before .before .before .before .before .status .given .1) (busy-is b) _ (b .stage-number .ensures) (wn .before .before .match3 .keys4) _ (word-is b _ (wn .word-now2 .ensures)) (bu .before .if2 .taken) _ (bu .busy3 .ensures) _ (ra .row-at2 .ensures ∙ row-found b) _ (sw .swapped-of .ensures))
-    (eo .entry-of .ensures ∙ ap (λ (k : ℕ). entry (from l .position + l .loop .i) (me l) k (Is True)) (row-no b))
+    hold-won (head x .loop .inv) (meets x) (low s) (here x) (is s) _ _ (sa .swap-says .result) (eo .entry-of .result) _ _
+    (at-won (head x .loop .inv) (meets x) (low s) (here x) (is s) (b .before .before .before .before .before .status .given .1) (busy-is b) _ (b .stage-number .ensures) (ra .before .match3 .keys4) _ (word-is b _ (wn .word-now2 .ensures)) (vo .before .if2 .taken) _ (kind-found b _ _ (ra .row-at3 .ensures) (ko .kind-of2 .ensures)) _ (vo .value-of2 .ensures) _ (sa .swap-says .ensures) _ (bu .busy3 .ensures) _ (ra .row-at3 .ensures ∙ row-found b) _ (pi .put-in .ensures) _ (sw .swapped-of .ensures))
+    (eo .entry-of .ensures ∙ ap (λ (k : ℕ). entry (from l .position + l .loop .i) (me l) k (Is (sa .swap-says .result))) (row-no b))
     (pw .store-word .ensures ∙ ap (λ (row : Row). set (l .loop .words) (row .word) (sw .swapped-of .result)) (row-found b))
     (ir .insert-row .kept .0)
     (ir .insert-row .ensures)
 
-busy-requires-4 : tie.Need-busy-requires-4 Inv-loop μ-loop
-busy-requires-4 c κs = search needs
+after-loss-requires : tie.Need-after-loss-requires Inv-loop μ-loop
+after-loss-requires c κs = search needs
 
 mul-processes-8 : tie.Need-mul-processes-8 Inv-loop μ-loop
 mul-processes-8 c = search needs
@@ -515,13 +548,13 @@ loop-less-10 : tie.Need-loop-less-10 Inv-loop μ-loop
 loop-less-10 c = search needs
 
 loop-again-10 : tie.Need-loop-again-10 Inv-loop μ-loop
-loop-again-10 c = let b = c .before .before .before .before .before in
+loop-again-10 c = let b = c .before .before .before .before .before .before .before .before in
     let s = step-at b in
     let x = s .before in
-    hold-record (head x .loop .inv) (meets x) (low s) (here x) (is s) _ (at-lost (head x .loop .inv) (meets x) (low s) (here x) (is s) (b .before .before .before .before .before .status .given .1) (busy-is b) _ (b .stage-number .ensures) (c .before .before .before .before .match3 .keys4) _ (word-is b _ (c .before .before .word-now2 .ensures)) (c .before .if2 .left) _ (c .busy4 .ensures))
+    hold-record (head x .loop .inv) (meets x) (low s) (here x) (is s) _ (at-lost (head x .loop .inv) (meets x) (low s) (here x) (is s) (b .before .before .before .before .before .status .given .1) (busy-is b) _ (b .stage-number .ensures) (c .before .before .before .before .before .before .before .match3 .keys4) _ (word-is b _ (c .before .before .before .word-now2 .ensures)) (c .before .before .if2 .left) _ (kind-found b _ _ (c .before .before .before .before .before .before .row-at3 .ensures) (c .before .before .before .before .before .kind-of2 .ensures)) _ (c .before .after-loss .ensures))
 
-busy-requires-5 : tie.Need-busy-requires-5 Inv-loop μ-loop
-busy-requires-5 c κs = search needs
+busy-requires-4 : tie.Need-busy-requires-4 Inv-loop μ-loop
+busy-requires-4 c κs = search needs
 
 mul-processes-9 : tie.Need-mul-processes-9 Inv-loop μ-loop
 mul-processes-9 c = search needs
@@ -530,7 +563,7 @@ array-set-from-processes-9 : tie.Need-array-set-from-processes-9 Inv-loop μ-loo
 array-set-from-processes-9 c = search needs
 
 enter-requires : tie.Need-enter-requires Inv-loop μ-loop
-enter-requires c κs = let b = c .before .before .before in
+enter-requires c κs = let b = c .before .before .before .before in
     let x = turn-at b in
     let l = head x in
     let r = log-room x in
@@ -541,17 +574,17 @@ loop-less-11 c = search needs
 
 loop-again-11 : tie.Need-loop-again-11 Inv-loop μ-loop
 loop-again-11 c = let en = c .before .before in
-    let bu = en .before .before in
+    let bu = en .before .before .before in
     let b = bu .before .before in
     let s = step-at b in
     let x = s .before in
-    hold-entered (head x .loop .inv) (meets x) (low s) (here x) (is s) _ _ _ _ _ (at-A5 (head x .loop .inv) (meets x) (low s) (here x) (is s) (b .before .before .before .before .before .status .given .1) (busy-is b) _ (b .stage-number .ensures) (bu .before .match3 .keys5) _ (bu .busy5 .ensures)) refl (row-no b) (row-numbered b) (en .enter .kept .1 .1 .1 .0) (en .enter .ensures)
+    hold-entered (head x .loop .inv) (meets x) (low s) (here x) (is s) _ _ _ _ _ (at-A5 (head x .loop .inv) (meets x) (low s) (here x) (is s) (b .before .before .before .before .before .status .given .1) (busy-is b) _ (b .stage-number .ensures) (bu .before .match3 .keys5) _ (bu .busy4 .ensures)) refl (row-no b) (row-numbered b) (en .enter .kept .1 .1 .1 .0) (en .enter .ensures)
 
 recovered-of-requires : tie.Need-recovered-of-requires Inv-loop μ-loop
 recovered-of-requires c κs = search needs
 
-busy-requires-6 : tie.Need-busy-requires-6 Inv-loop μ-loop
-busy-requires-6 c κs = search needs
+busy-requires-5 : tie.Need-busy-requires-5 Inv-loop μ-loop
+busy-requires-5 c κs = search needs
 
 mul-processes-10 : tie.Need-mul-processes-10 Inv-loop μ-loop
 mul-processes-10 c = search needs
@@ -563,16 +596,16 @@ loop-less-12 : tie.Need-loop-less-12 Inv-loop μ-loop
 loop-less-12 c = search needs
 
 loop-again-12 : tie.Need-loop-again-12 Inv-loop μ-loop
-loop-again-12 c = let b = c .before .before .before in
+loop-again-12 c = let b = c .before .before .before .before in
     let s = step-at b in
     let x = s .before in
-    hold-record (head x .loop .inv) (meets x) (low s) (here x) (is s) _ (at-V1 (head x .loop .inv) (meets x) (low s) (here x) (is s) (b .before .before .before .before .before .status .given .1) (busy-is b) _ (b .stage-number .ensures) (c .before .before .match3 .keys6) _ (c .before .recovered-of .ensures) _ (c .busy6 .ensures))
+    hold-record (head x .loop .inv) (meets x) (low s) (here x) (is s) _ (at-V1 (head x .loop .inv) (meets x) (low s) (here x) (is s) (b .before .before .before .before .before .status .given .1) (busy-is b) _ (b .stage-number .ensures) (c .before .before .before .match3 .keys6) _ (c .before .before .recovered-of .ensures) _ (c .before .busy5 .ensures))
 
 by-checkpoint-requires : tie.Need-by-checkpoint-requires Inv-loop μ-loop
 by-checkpoint-requires c κs = search needs
 
-busy-requires-7 : tie.Need-busy-requires-7 Inv-loop μ-loop
-busy-requires-7 c κs = search needs
+busy-requires-6 : tie.Need-busy-requires-6 Inv-loop μ-loop
+busy-requires-6 c κs = search needs
 
 mul-processes-11 : tie.Need-mul-processes-11 Inv-loop μ-loop
 mul-processes-11 c = search needs
@@ -584,10 +617,10 @@ loop-less-13 : tie.Need-loop-less-13 Inv-loop μ-loop
 loop-less-13 c = search needs
 
 loop-again-13 : tie.Need-loop-again-13 Inv-loop μ-loop
-loop-again-13 c = let b = c .before .before .before in
+loop-again-13 c = let b = c .before .before .before .before in
     let s = step-at b in
     let x = s .before in
-    hold-record (head x .loop .inv) (meets x) (low s) (here x) (is s) _ (at-V2 (head x .loop .inv) (meets x) (low s) (here x) (is s) (b .before .before .before .before .before .status .given .1) (busy-is b) _ (b .stage-number .ensures) (c .before .before .match3 .keys7) _ (c .before .by-checkpoint .ensures) _ (c .busy7 .ensures))
+    hold-record (head x .loop .inv) (meets x) (low s) (here x) (is s) _ (at-V2 (head x .loop .inv) (meets x) (low s) (here x) (is s) (b .before .before .before .before .before .status .given .1) (busy-is b) _ (b .stage-number .ensures) (c .before .before .before .match3 .keys7) _ (c .before .before .by-checkpoint .ensures) _ (c .before .busy6 .ensures))
 
 word-now-requires-3 : tie.Need-word-now-requires-3 Inv-loop μ-loop
 word-now-requires-3 c κs = reach (c .before .before)
@@ -595,8 +628,8 @@ word-now-requires-3 c κs = reach (c .before .before)
 by-bit-requires : tie.Need-by-bit-requires Inv-loop μ-loop
 by-bit-requires c κs = search needs
 
-busy-requires-8 : tie.Need-busy-requires-8 Inv-loop μ-loop
-busy-requires-8 c κs = search needs
+busy-requires-7 : tie.Need-busy-requires-7 Inv-loop μ-loop
+busy-requires-7 c κs = search needs
 
 mul-processes-12 : tie.Need-mul-processes-12 Inv-loop μ-loop
 mul-processes-12 c = search needs
@@ -608,13 +641,22 @@ loop-less-14 : tie.Need-loop-less-14 Inv-loop μ-loop
 loop-less-14 c = search needs
 
 loop-again-14 : tie.Need-loop-again-14 Inv-loop μ-loop
-loop-again-14 c = let b = c .before .before .before .before .before in
+loop-again-14 c = let b = c .before .before .before .before .before .before .before in
     let s = step-at b in
     let x = s .before in
-    hold-record (head x .loop .inv) (meets x) (low s) (here x) (is s) _ (at-V3 (head x .loop .inv) (meets x) (low s) (here x) (is s) (b .before .before .before .before .before .status .given .1) (busy-is b) _ (b .stage-number .ensures) (c .before .before .before .before .match3 .keys8) _ (word-is b _ (c .before .before .word-now3 .ensures)) _ (c .before .by-bit .ensures) _ (c .busy8 .ensures))
+    hold-record (head x .loop .inv) (meets x) (low s) (here x) (is s) _ (at-V3 (head x .loop .inv) (meets x) (low s) (here x) (is s) (b .before .before .before .before .before .status .given .1) (busy-is b) _ (b .stage-number .ensures) (c .before .before .before .before .before .before .match3 .keys8) _ (word-is b _ (c .before .before .before .before .word-now3 .ensures)) _ (c .before .before .by-bit .ensures) _ (c .before .busy7 .ensures))
 
-busy-requires-9 : tie.Need-busy-requires-9 Inv-loop μ-loop
-busy-requires-9 c κs = search needs
+busy-requires-8 : tie.Need-busy-requires-8 Inv-loop μ-loop
+busy-requires-8 c κs = search needs
+
+row-at-requires-4 : tie.Need-row-at-requires-4 Inv-loop μ-loop
+row-at-requires-4 c κs = reach (c .before .before) .row
+
+kind-of-requires-3 : tie.Need-kind-of-requires-3 Inv-loop μ-loop
+kind-of-requires-3 c κs = search needs
+
+swap-says-requires-2 : tie.Need-swap-says-requires-2 Inv-loop μ-loop
+swap-says-requires-2 c κs = search needs
 
 mul-processes-13 : tie.Need-mul-processes-13 Inv-loop μ-loop
 mul-processes-13 c = search needs
@@ -626,10 +668,10 @@ loop-less-15 : tie.Need-loop-less-15 Inv-loop μ-loop
 loop-less-15 c = search needs
 
 loop-again-15 : tie.Need-loop-again-15 Inv-loop μ-loop
-loop-again-15 c = let b = c .before .before in
+loop-again-15 c = let b = c .before .before .before .before .before .before .before in
     let s = step-at b in
     let x = s .before in
-    hold-record (head x .loop .inv) (meets x) (low s) (here x) (is s) _ (at-V4 (head x .loop .inv) (meets x) (low s) (here x) (is s) (b .before .before .before .before .before .status .given .1) (busy-is b) _ (b .stage-number .ensures) (c .before .match3 .keys9) _ (c .busy9 .ensures))
+    hold-record (head x .loop .inv) (meets x) (low s) (here x) (is s) _ (at-V4 (head x .loop .inv) (meets x) (low s) (here x) (is s) (b .before .before .before .before .before .status .given .1) (busy-is b) _ (b .stage-number .ensures) (c .before .before .before .before .before .before .match3 .keys9) _ (kind-found b _ _ (c .before .before .before .before .row-at4 .ensures) (c .before .before .before .kind-of3 .ensures)) _ (c .before .swap-says2 .ensures) _ (c .before .before .before .before .before .busy8 .ensures))
 
 reply-of-requires : tie.Need-reply-of-requires Inv-loop μ-loop
 reply-of-requires c κs = search needs
@@ -641,16 +683,16 @@ array-set-from-processes-14 : tie.Need-array-set-from-processes-14 Inv-loop μ-l
 array-set-from-processes-14 c = search needs
 
 cast-entry-of-2 : tie.Need-cast-entry-of-2 Inv-loop μ-loop
-cast-entry-of-2 c = position-fits (turn-at (c .before .before))
+cast-entry-of-2 c = position-fits (turn-at (c .before .before .before))
 
 entry-of-requires-2 : tie.Need-entry-of-requires-2 Inv-loop μ-loop
 entry-of-requires-2 c κs = search needs
 
 add-answer-requires : tie.Need-add-answer-requires Inv-loop μ-loop
-add-answer-requires c κs = answers-room (turn-at (c .before .before .before .before))
+add-answer-requires c κs = answers-room (turn-at (c .before .before .before .before .before))
 
 add-answer-rows : tie.Need-add-answer-rows Inv-loop μ-loop
-add-answer-rows c = answers-fit (turn-at (c .before .before .before .before .before .before .before))
+add-answer-rows c = answers-fit (turn-at (c .before .before .before .before .before .before .before .before))
 
 loop-less-16 : tie.Need-loop-less-16 Inv-loop μ-loop
 loop-less-16 c = search needs
@@ -658,7 +700,7 @@ loop-less-16 c = search needs
 loop-again-16 : tie.Need-loop-again-16 Inv-loop μ-loop
 loop-again-16 c = let aa = c .before .before in
     let eo = aa .before .before in
-    let rp = eo .before in
+    let rp = eo .before .before in
     let rs = rp .before in
     let b = rs .before in
     let s = step-at b in
@@ -686,8 +728,8 @@ loop-less-17 : tie.Need-loop-less-17 Inv-loop μ-loop
 loop-less-17 c = search needs
 
 loop-again-17 : tie.Need-loop-again-17 Inv-loop μ-loop
-loop-again-17 c = let x = c .before .before in
-    let k = c .before .match .keys2 in
+loop-again-17 c = let x = c .before .before .before in
+    let k = c .before .before .match .keys2 in
     hold-crash (head x .loop .inv) (meets x) (let e : byte (head x) / 16 ≡ 1 = k in omega arith) (here x) k
 
 mul-named-2 : tie.Need-mul-named-2 Inv-loop μ-loop
@@ -718,15 +760,15 @@ loop-less-18 : tie.Need-loop-less-18 Inv-loop μ-loop
 loop-less-18 c = search needs
 
 loop-again-18 : tie.Need-loop-again-18 Inv-loop μ-loop
-loop-again-18 c = let x = c .before .before .before .before .before .before .before in
-    let k = c .before .before .before .before .before .before .match .keys3 in
-    hold-wake-idle (head x .loop .inv) (meets x) (let e : byte (head x) / 16 ≡ 2 = k in omega arith) (here x) k (c .before .before .before .enum-told5 .given .1) (c .enum-told6 .given .1)
+loop-again-18 c = let x = c .before .before .before .before .before .before .before .before in
+    let k = c .before .before .before .before .before .before .before .match .keys3 in
+    hold-wake-idle (head x .loop .inv) (meets x) (let e : byte (head x) / 16 ≡ 2 = k in omega arith) (here x) k (c .before .before .before .before .enum-told5 .given .1) (c .before .enum-told6 .given .1)
 
 enum-told-7 : tie.Need-enum-told-7 Inv-loop μ-loop
 enum-told-7 c = search needs
 
-busy-requires-10 : tie.Need-busy-requires-10 Inv-loop μ-loop
-busy-requires-10 c κs = search needs
+busy-requires-9 : tie.Need-busy-requires-9 Inv-loop μ-loop
+busy-requires-9 c κs = search needs
 
 mul-processes-17 : tie.Need-mul-processes-17 Inv-loop μ-loop
 mul-processes-17 c = search needs
@@ -738,9 +780,9 @@ loop-less-19 : tie.Need-loop-less-19 Inv-loop μ-loop
 loop-less-19 c = search needs
 
 loop-again-19 : tie.Need-loop-again-19 Inv-loop μ-loop
-loop-again-19 c = let x = c .before .before .before .before .before .before .before .before in
-    let k = c .before .before .before .before .before .before .before .match .keys3 in
-    hold-wake-busy (head x .loop .inv) (meets x) (let e : byte (head x) / 16 ≡ 2 = k in omega arith) (here x) k (c .before .before .before .before .enum-told5 .given .1) _ (c .before .enum-told7 .given .1) _ (c .busy10 .ensures)
+loop-again-19 c = let x = c .before .before .before .before .before .before .before .before .before in
+    let k = c .before .before .before .before .before .before .before .before .match .keys3 in
+    hold-wake-busy (head x .loop .inv) (meets x) (let e : byte (head x) / 16 ≡ 2 = k in omega arith) (here x) k (c .before .before .before .before .before .enum-told5 .given .1) _ (c .before .before .enum-told7 .given .1) _ (c .before .busy9 .ensures)
 
 loop-less-20 : tie.Need-loop-less-20 Inv-loop μ-loop
 loop-less-20 c = search needs
@@ -763,8 +805,8 @@ loop-again-22 : tie.Need-loop-again-22 Inv-loop μ-loop
 loop-again-22 c = let x = c .before .before .before in
     hold-all (head x .loop .inv) (meets x) (all-of (c .before .before)) _ (c .crash-first .ensures)
 
-add-t298 : tie.Need-add-t298 Inv-loop μ-loop
-add-t298 c = record { fits = let a = begins (c .before) .pre .early in omega arith }
+add-reached : tie.Need-add-reached Inv-loop μ-loop
+add-reached c = record { fits = let a = begins (c .before) .pre .early in omega arith }
 
 same-length : tie.Need-same-length Inv-loop μ-loop
 same-length c = c .before .loop .inv .words-same
@@ -841,8 +883,12 @@ run-bytes-spec =
     loop-less-6
     loop-again-6
     busy-requires
+    row-at-requires-2
+    kind-of-requires
     cast-bit-of
     bit-of-requires
+    value-of-requires
+    keep-requires
     mul-processes-5
     array-set-from-processes-5
     loop-less-7
@@ -852,11 +898,15 @@ run-bytes-spec =
     array-set-from-processes-6
     loop-less-8
     loop-again-8
+    row-at-requires-3
+    kind-of-requires-2
     word-now-requires-2
+    value-of-requires-2
+    swap-says-requires
     busy-requires-3
     mul-processes-7
     array-set-from-processes-7
-    row-at-requires-2
+    put-in-requires
     cast-swapped-of
     swapped-of-requires
     store-word-requires
@@ -866,37 +916,40 @@ run-bytes-spec =
     add-log-rows
     loop-less-9
     loop-again-9
-    busy-requires-4
+    after-loss-requires
     mul-processes-8
     array-set-from-processes-8
     loop-less-10
     loop-again-10
-    busy-requires-5
+    busy-requires-4
     mul-processes-9
     array-set-from-processes-9
     enter-requires
     loop-less-11
     loop-again-11
     recovered-of-requires
-    busy-requires-6
+    busy-requires-5
     mul-processes-10
     array-set-from-processes-10
     loop-less-12
     loop-again-12
     by-checkpoint-requires
-    busy-requires-7
+    busy-requires-6
     mul-processes-11
     array-set-from-processes-11
     loop-less-13
     loop-again-13
     word-now-requires-3
     by-bit-requires
-    busy-requires-8
+    busy-requires-7
     mul-processes-12
     array-set-from-processes-12
     loop-less-14
     loop-again-14
-    busy-requires-9
+    busy-requires-8
+    row-at-requires-4
+    kind-of-requires-3
+    swap-says-requires-2
     mul-processes-13
     array-set-from-processes-13
     loop-less-15
@@ -927,7 +980,7 @@ run-bytes-spec =
     loop-less-18
     loop-again-18
     enum-told-7
-    busy-requires-10
+    busy-requires-9
     mul-processes-17
     array-set-from-processes-17
     loop-less-19
@@ -939,7 +992,7 @@ run-bytes-spec =
     (λ c κs. search needs)
     loop-less-22
     loop-again-22
-    add-t298
+    add-reached
     same-length
     same-length-2
     same-length-3

@@ -14,6 +14,9 @@ returns-2 c = rw (sym (c .before .before .before .kind-of .ensures) ∙ c .befor
 returns-3 : tie.Need-returns-3
 returns-3 c = rw (sym (c .before .before .before .before .before .kind-of .ensures) ∙ c .before .before .before .enum-told2 .given .1, ne-eqb _ _ (rw (c .before .before .value-of2 .ensures) at (c .if1 .left)))
 
+returns-4 : tie.Need-returns-4
+returns-4 c = rw (sym (c .before .before .kind-of .ensures) ∙ c .enum-told3 .given .1)
+
 pub after-read-spec : {M : Type 1} → statement M
 after-read-spec =
     tie.close
@@ -24,5 +27,7 @@ after-read-spec =
     (λ c. search needs)
     (λ c κs. search needs)
     returns
+    (λ c. search needs)
     returns-2
-    returns-3)
+    returns-3
+    returns-4)

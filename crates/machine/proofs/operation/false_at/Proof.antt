@@ -1,5 +1,5 @@
 -- `false_at` meets its contract: whether the value read was old.
-use Prim.Native.Nat.{ℕ, _*_}
+use Prim.Native.Nat.{ℕ}
 use mathlib.Core.Path.{ap, sym, subst, _∙_}
 use denote.Ref.{now}
 use Rattle.runfile.specs.Layout.{rowOfTable, HasRow}

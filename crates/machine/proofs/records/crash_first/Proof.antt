@@ -21,9 +21,9 @@ loop-holds c = (search needs, search needs, search needs, search needs, refl)
 
 loop-again : tie.Need-loop-again Inv-loop μ-loop
 loop-again c =
-    let l = c .before .before in
+    let l = c .before .before .before in
     let v = l .loop .inv in
-    (search needs, v .1, v .2, simp length-set (v .3), down-turn (l .loop .i) (c .before .before .before .before .args .processes) (l .loop .down) _ (omega arith) (v .4) refl)
+    (search needs, v .1, v .2, simp length-set (v .3), down-turn (l .loop .i) (c .before .before .before .before .before .args .processes) (l .loop .down) _ (omega arith) (v .4) refl)
 
 returns : tie.Need-returns Inv-loop μ-loop
 returns c =

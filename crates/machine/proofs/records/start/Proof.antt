@@ -14,7 +14,7 @@ add-t8 : tie.Need-add-t8
 add-t8 c = search needs
 
 returns : tie.Need-returns
-returns c = rw (c .before .before .busy .ensures, add-one (c .before .before .before .args .process .begun))
+returns c = rw (c .before .before .before .busy .ensures, add-one (c .before .before .before .before .args .process .begun))
 
 pub start-spec : {M : Type 1} → statement M
 start-spec = tie.close (tie.spec busy-requires add-t6 add-t8 returns)

@@ -20,6 +20,10 @@ returns-4 : tie.Need-returns-4
 unfolding spoken
 returns-4 c = simp (c .enum-told4 .given .1, c .before .before .before .said .given .1)
 
+returns-5 : tie.Need-returns-5
+unfolding spoken
+returns-5 c = simp (c .enum-told5 .given .1, c .before .before .before .said .given .1)
+
 pub verdict-of-spec : {M : Type 1} → statement M
 verdict-of-spec =
     tie.close
@@ -30,6 +34,8 @@ verdict-of-spec =
     (λ c. search needs)
     (λ c. search needs)
     (λ c. search needs)
+    (λ c. search needs)
     returns-2
     returns-3
-    returns-4)
+    returns-4
+    returns-5)

@@ -27,4 +27,6 @@ read-says-spec =
     (λ c κs. search needs)
     (λ c. search needs)
     (λ c. search needs)
-    returns-3)
+    (λ c. search needs)
+    returns-3
+    (λ c. search needs))

@@ -169,7 +169,7 @@ module _ {M : Type 1} (𝓤 : URA M) (H : Heap 𝓤) (A : Atoms 𝓤) (W : Given
         assigns ! (bin ! (load ! (from ! (stop !)) (look ! 12 refl)) (load ! (from ! (stop !)) (look ! 16 refl)) tt) (from ! (stop !)) (init ! 8 refl (tt, tt)) $
         tests ! (load ! (from ! (stop !)) (look ! 8 refl))
         (λ less. let i : ℕ = j .0 in let zs : List Process = laid i t ys in let lt : i < n = ltb→lt i n less in let among : i < length ys = lt-of-lt-of-le lt (enough .1) in
-        let near : i * 56 < 2 ^ 64 = place-fits i (length ys) among (room .1) in let inn : i < length zs = subst (λ (k : ℕ). i < k) (sym (same (j .0) (j .1))) among in let small : i < 16 = lt-of-lt-of-le lt (enough .0) in
+        let near : i * 64 < 2 ^ 64 = place-fits i (length ys) among (room .1) in let inn : i < length zs = subst (λ (k : ℕ). i < k) (sym (same (j .0) (j .1))) among in let small : i < 16 = lt-of-lt-of-le lt (enough .0) in
         -- process = record_at(processes, i)
         nothing ! $ use1 W (raw (RecordAt 𝓤 H A mem run .pre (to-record-at i))) (goes-record-at i (fits j) small) $
         calls-at ! fm (RecordAt 𝓤 H A mem run) known-record-at (to-record-at i) (and-then ! (load ! (from ! (stop !)) (look ! 15 refl)) (and-then ! (load ! (from ! (stop !)) (look ! 13 refl)) (no-more !))) (λ w.
@@ -180,7 +180,7 @@ module _ {M : Type 1} (𝓤 : URA M) (H : Heap 𝓤) (A : Atoms 𝓤) (W : Given
         -- records[i] = process
         assigns ! (bin ! (load ! (from ! (stop !)) (look ! 13 refl)) (lit ! tt) (record { fits = near })) (from ! (stop !)) (init ! 7 refl (tt, record { fits = near })) $
         assigns ! (bin ! (load ! (from ! (fld ! refl (stop !))) (look-in ! 19 (sub ! 0 refl (whole !)))) (load ! (from ! (stop !)) (look ! 7 refl)) tt) (from ! (stop !)) (init ! 5 refl (tt, tt)) $
-        rewrite ! 5 (λ (m : ℕ). ‵ (fat fullShare tyPtr l₈ 0 (vptr b m))) (sym (place-is 56 o i)) refl $
+        rewrite ! 5 (λ (m : ℕ). ‵ (fat fullShare tyPtr l₈ 0 (vptr b m))) (sym (place-is 64 o i)) refl $
         move ! (1 ∷ []) $ elem-out ! R (Is R) (shows 𝓤 H A R) vals (LL.tells T.the-type T′.the-laws) fullShare zs i nobody b o inn (λ _.
         assigns ! (of-opd ! (load ! (from ! (stop !)) (look ! 13 refl))) (from ! (hop ! (look ! 7 refl) (stop !))) (store-raw ! 0 refl (LL.lawful T.the-type T′.the-laws 𝓤 H A W .typed r _ rt .0)) $
         move ! (1 ∷ []) $ drop ! $ move ! (0 ∷ 2 ∷ 1 ∷ []) $ elem-put ! R fullShare zs i r (w ∷ []) b o inn $ rewrite ! 0 (λ (l : List Process). ‵ (row R fullShare l b o)) (laid-more i t ys r (lt-of-lt-of-le small sixteen) among is) refl $

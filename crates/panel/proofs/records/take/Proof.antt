@@ -181,10 +181,10 @@ module _ {M : Type 1} (𝓤 : URA M) (H : Heap 𝓤) (A : Atoms 𝓤) (W : Given
         assigns ! (bin ! (load ! (from ! (stop !)) (look ! 13 refl)) (load ! (from ! (stop !)) (look ! 17 refl)) tt) (from ! (stop !)) (init ! 9 refl (tt, tt)) $
         tests ! (load ! (from ! (stop !)) (look ! 9 refl))
         (λ less. let i : ℕ = j .0 in let u : List Process = j .1 .1 .0 in let v : Val = j .1 .1 .1 .0 in let p : Process = getD ys i nobody in let lt : i < n = ltb→lt i n less in
-        let inn : i < length ys = lt-of-lt-of-le lt (enough .1) in let near : i * 56 < 2 ^ 64 = place-fits i (length ys) inn (room .1) in let small : i < 16 = lt-of-lt-of-le lt (enough .0) in
+        let inn : i < length ys = lt-of-lt-of-le lt (enough .1) in let near : i * 64 < 2 ^ 64 = place-fits i (length ys) inn (room .1) in let small : i < 16 = lt-of-lt-of-le lt (enough .0) in
         assigns ! (bin ! (load ! (from ! (stop !)) (look ! 13 refl)) (lit ! tt) (record { fits = near })) (from ! (stop !)) (init ! 7 refl (tt, record { fits = near })) $
         assigns ! (bin ! (load ! (from ! (fld ! refl (stop !))) (look-in ! 19 (sub ! 0 refl (whole !)))) (load ! (from ! (stop !)) (look ! 7 refl)) tt) (from ! (stop !)) (init ! 5 refl (tt, tt)) $
-        rewrite ! 5 (λ (m : ℕ). ‵ (fat fullShare tyPtr l₈ 0 (vptr b m))) (sym (place-is 56 o i)) refl $
+        rewrite ! 5 (λ (m : ℕ). ‵ (fat fullShare tyPtr l₈ 0 (vptr b m))) (sym (place-is 64 o i)) refl $
         -- process = records[i]
         elem-out ! R (Is R) (shows 𝓤 H A R) vals (LL.tells T.the-type T′.the-laws) q′ ys i nobody b o inn (λ pt.
         assigns ! (of-opd ! (load ! (from ! (hop ! (look ! 7 refl) (stop !))) (look-raw ! 0 refl))) (from ! (stop !)) (init ! 5 refl (LL.lawful T.the-type T′.the-laws 𝓤 H A W .typed p _ pt .0)) $

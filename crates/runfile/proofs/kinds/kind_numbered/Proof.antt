@@ -7,7 +7,10 @@ returns : tie.Need-returns
 returns c = simp (c .match .keys1)
 
 returns-2 : tie.Need-returns-2
-returns-2 c = simp (ne-eqb _ _ (c .match .rest .1))
+returns-2 c = simp (c .match .keys2)
+
+returns-3 : tie.Need-returns-3
+returns-3 c = simp (ne-eqb _ _ (c .match .rest .0 .1), ne-eqb _ _ (c .match .rest .1))
 
 pub kind-numbered-spec : {M : Type 1} → statement M
-kind-numbered-spec = tie.close (tie.spec returns returns-2)
+kind-numbered-spec = tie.close (tie.spec returns returns-2 returns-3)

@@ -11,7 +11,7 @@ returns c = simp (c .before .before .enum-told .given .1)
 
 returns-2 : tie.Need-returns-2
 unfolding badField rowAt
-returns-2 c = simp (c .before .enum-told2 .given .1)
+returns-2 c = simp (c .is-bad-kind .ensures, c .before .before .enum-told2 .given .1)
 
 returns-3 : tie.Need-returns-3
 unfolding badField rowAt
@@ -38,6 +38,7 @@ is-bad-field-spec =
     (λ c. search needs)
     (λ c. search needs)
     (λ c. search needs)
+    (λ c κs. search needs)
     (λ c. search needs)
     (λ c. search needs)
     (λ c. search needs)
