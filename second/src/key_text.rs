@@ -1,6 +1,7 @@
 //! `second key-text`: the schedule of a run file as keys, littered by a seed
 //! with all that a panel has to bear: comments, lines that are no key, bytes
-//! that are no action, processes that are not there, crashes and wakes.
+//! that are no action, processes that are not there, crashes and wakes, and
+//! those of them that are idle.
 
 use std::io::{self, Read, Write};
 
@@ -75,6 +76,7 @@ impl Typist {
             (2, Typist::process_beyond),
             (2, Typist::any_action),
             (5, Typist::crash_and_wake),
+            (2, Typist::idle_keys),
             (1, Typist::crash_all_and_wake),
         ]);
         litter(self);
@@ -141,7 +143,7 @@ impl Typist {
         self.random.below(self.processes.into()) as u8
     }
 
-    /// Also one that changes nothing.
+    /// Also one that changes nothing, and one that is refused for that.
     fn any_action(&mut self) {
         let process = self.any_process();
         let action = self.random.weighted([(8, 0), (1, CRASH), (2, WAKE)]);
@@ -158,6 +160,23 @@ impl Typist {
         self.steps(process, 5);
         if self.random.percent(30) {
             self.key(CRASH | process);
+            self.key(WAKE | process);
+        }
+    }
+
+    /// A crash or a wake typed twice: whatever the process was, the second is
+    /// refused by 16. Then what brings it back, and perhaps that twice as well.
+    fn idle_keys(&mut self) {
+        let process = self.any_process();
+        let [first, second] = self.random.one_of([[CRASH, WAKE], [WAKE, CRASH]]);
+        for action in [first, first, second] {
+            self.key(action | process);
+        }
+        if self.random.percent(50) {
+            self.steps(process, 2);
+            self.key(second | process);
+        }
+        if second == CRASH {
             self.key(WAKE | process);
         }
     }
@@ -244,6 +263,10 @@ mod tests {
         assert!(met(|key, processes| key < 0x30 && key & 0x0F >= processes));
         assert!(met(|key, processes| key >> 4 == 1 && key & 0x0F < processes));
         assert!(met(|key, processes| key >> 4 == 2 && key & 0x0F < processes));
+        for action in [CRASH, WAKE] {
+            let twice = |pair: &[u8]| pair[0] == pair[1] && pair[0] & 0xF0 == action;
+            assert!(keys.windows(2).any(twice));
+        }
     }
 
     #[test]

@@ -12,8 +12,8 @@ use crate::Ending;
 /// the line alone does not tell, [`Tally::labelled`] puts in a word: `start`
 /// for the words that the file starts from, `between` for a row of the log
 /// that has others behind it, `wide` for a value over 65,535, which only a file
-/// of version 2 comes to, `back` for a stage that follows a lost round, `file`
-/// for the refusal of a file.
+/// of version 2 comes to, `back` for a stage that follows a lost round, `crash`
+/// and `wake` for the refusal by 16 of such a key, `file` for that of a file.
 const KINDS: &[&str] = &[
     "run P W R S",
     "start word K VALUE FLIPS",
@@ -76,6 +76,8 @@ const KINDS: &[&str] = &[
     "file refused N PLACE",
     "refused 21 0",
     "refused 22 0",
+    "crash refused 16 0",
+    "wake refused 16 0",
 ];
 
 /// A text is what a panel has printed for one file after the other.
@@ -90,7 +92,8 @@ struct Tally {
     /// The stage of each process of this file, where one has been told.
     stages: BTreeMap<String, String>,
     in_header: bool,
-    behind_a_key: bool,
+    /// The action of the key in the line before, if that was one.
+    behind_a_key: Option<String>,
 }
 
 pub fn command() -> io::Result<Ending> {
@@ -136,7 +139,11 @@ impl Tally {
             (Some("key"), _) => self.keys += 1,
             _ => {}
         }
-        self.behind_a_key = name == Some("key");
+        self.behind_a_key = match line.split(' ').collect::<Vec<_>>()[..] {
+            ["key", _, _, "crash", "all"] => Some("crash all".to_string()),
+            ["key", _, _, action, ..] => Some(action.to_string()),
+            _ => None,
+        };
         self.in_header &= matches!(name, Some("run" | "word"));
         true
     }
@@ -147,7 +154,11 @@ impl Tally {
             Some(("word", _)) if self.in_header => format!("start {wide}{line}"),
             Some(("process", told)) if self.goes_back(told) => format!("back {line}"),
             Some(("word" | "process" | "answer", _)) => format!("{wide}{line}"),
-            Some(("refused", _)) if !self.behind_a_key => format!("file {line}"),
+            Some(("refused", number)) => match &self.behind_a_key {
+                None => format!("file {line}"),
+                Some(action) if number.starts_with("16 ") => format!("{action} {line}"),
+                Some(_) => line.to_string(),
+            },
             Some(("log", row)) if self.has_others_behind(row) => format!("log between {row}"),
             _ => line.to_string(),
         }
@@ -321,6 +332,19 @@ mod tests {
         assert_eq!(met_once(text), expected);
     }
 
+    #[test]
+    fn an_idle_crash_and_an_idle_wake_are_two_kinds() {
+        let text = "key 0 20 wake 0\nrefused 16 0\nkey 0 13 crash 3\nrefused 16 0\n";
+        let expected = [
+            "key T BB crash Q",
+            "key T BB wake Q",
+            "crash refused 16 0",
+            "wake refused 16 0",
+        ];
+        assert_eq!(met_once(text), expected);
+        assert!(told(text).1.contains("2 keys\nrefused by 16: 2\n"));
+    }
+
     /// Also over two files: the second begins with an empty log.
     #[test]
     fn a_row_of_the_log_with_others_behind_it_is_another_kind() {
@@ -344,6 +368,9 @@ mod tests {
             "key 0 0G none",
             "key x 00 step 0",
             "key 0 00 step 0\nrefused 14 0",
+            "key 0 00 step 0\nrefused 16 0",
+            "key 0 f0 crash all\nrefused 16 0",
+            "key 0 10 crash 0\nrefused 16 1",
             "answer 3 0 0 5 0",
             "log 3 0 0 2 0 at 0",
             "process 0 stored before 7",

@@ -6,8 +6,7 @@
 use super::given::{number, GivenRow, Layout, ADVANCE, COMPARE, FIELDS, READ};
 use super::Violation;
 
-/// What a refusal of that file by that number at that place is about, for a
-/// number that more than one thing can be wrong with.
+/// What a refusal 9 or 11 of that file at that place is about.
 pub fn fault_at(file: &[u8], number: usize, place: usize) -> Result<Option<String>, Violation> {
     let (first, none) = match number {
         9 => (first_faulty_field(file), "no field of a row is faulty"),

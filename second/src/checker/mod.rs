@@ -6,11 +6,12 @@
 //! operation begins with its third store and that an advance tries in rounds of
 //! four steps. What it demands is what can be seen from outside: the file, the
 //! log, the answers and the final words. Of the refusals it judges the places
-//! of 9 and 11, so that it can count them by what is wrong and by version.
+//! of 9, 11 and 16, so that it can count them by what is wrong and by version.
 
 mod demands;
 mod fields;
 mod given;
+mod idle;
 mod outcome;
 mod positions;
 mod spans;
@@ -90,8 +91,16 @@ fn check_record(record: &Record, text: &[u8], tally: &mut Tally) -> Result<(), V
             if place > record.file.len() {
                 return Err(format!("the place {place} is not in the file"));
             }
-            let fault = fields::fault_at(&record.file, number, place)?;
-            tally.refused(number, fault, Layout::of(&record.file))
+            let fault = match number {
+                9 | 11 => fields::fault_at(&record.file, number, place)?,
+                16 => Some(idle::idle_at(&record.file, place)?.to_string()),
+                _ => None,
+            };
+            tally.refused(number, fault, Layout::of(&record.file))?;
+            if matches!(number, 13..=15) {
+                idle::check_none(&Given::read(&record.file)?)?;
+            }
+            Ok(())
         }
         Told::Ran(ran) => {
             let given = Given::read(&record.file)?;
@@ -103,6 +112,7 @@ fn check_record(record: &Record, text: &[u8], tally: &mut Tally) -> Result<(), V
 }
 
 fn check_run(given: &Given, ran: &Ran) -> Result<Spans, Violation> {
+    idle::check_none(given)?;
     demands::check_counts(given, ran)?;
     demands::check_replay(given, ran)?;
     demands::check_sums(given, ran)?;

@@ -5,6 +5,7 @@ use std::collections::BTreeMap;
 
 use super::demands::{named_row, FAIL, ROUND, VALUE_BEFORE, VALUE_READ};
 use super::given::{Given, Layout, ADVANCE};
+use super::idle::{CRASH_OF_ONE_DOWN, WAKE_OF_ONE_UP};
 use super::outcome::{Five, Ran};
 use super::positions::lost_swaps;
 use super::spans::{Span, Spans};
@@ -12,7 +13,7 @@ use super::Violation;
 
 /// The refusals that a stream must meet, by version: number, and what is wrong
 /// where that can be more than one thing. Version 0 is for those that come
-/// before it is known that there is one.
+/// before it is known that there is one. They stand in the order of the checks.
 const REFUSALS: [&[(usize, &str)]; 3] = [
     &[(1, ""), (2, ""), (3, "")],
     &[
@@ -31,6 +32,8 @@ const REFUSALS: [&[(usize, &str)]; 3] = [
         (10, ""),
         (11, "of a compare"),
         (12, ""),
+        (16, CRASH_OF_ONE_DOWN),
+        (16, WAKE_OF_ONE_UP),
         (13, ""),
         (14, ""),
         (15, ""),
@@ -52,6 +55,8 @@ const REFUSALS: [&[(usize, &str)]; 3] = [
         (11, "of a compare"),
         (11, "of an advance"),
         (12, ""),
+        (16, CRASH_OF_ONE_DOWN),
+        (16, WAKE_OF_ONE_UP),
         (13, ""),
         (14, ""),
         (15, ""),
@@ -142,9 +147,9 @@ impl Tally {
     ) -> Result<(), Violation> {
         let version = match (number, layout) {
             (1 | 2, _) | (3, None) => 0,
-            (4..=15, Some(layout)) => layout.version,
+            (4..=16, Some(layout)) => layout.version,
             (3, Some(layout)) => return Err(format!("there is a version {}", layout.version)),
-            (4..=15, None) => return Err("the file is of no version".to_string()),
+            (4..=16, None) => return Err("the file is of no version".to_string()),
             _ => return Err(format!("there is no refusal {number}")),
         };
         let kind = (version, number, fault.unwrap_or_default());

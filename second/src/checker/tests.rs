@@ -355,8 +355,65 @@ fn a_file_that_cannot_be_read_cannot_have_run() {
 #[test]
 fn a_refusal_has_a_number_of_the_table_and_a_place_in_the_file() {
     objection(F, "refused 0 0\n");
-    objection(F, "refused 16 0\n");
+    objection(F, "refused 17 0\n");
     objection(F, "refused 9 48\n");
+}
+
+/// Bytes of a schedule that are changed; the position of the first idle byte,
+/// and of which sort it is.
+type IdleCase = (&'static [(usize, u8)], usize, &'static str);
+
+/// The schedule of case f begins at 31, in version 2 at 43. Process 0 takes its
+/// steps at 0 to 3 and 11 to 15.
+#[test]
+fn refusal_16_has_the_place_of_the_first_idle_byte() {
+    let down = "for a crash of one that is down";
+    let up = "for a wake of one that is up";
+    let cases: [IdleCase; 7] = [
+        (&[(0, 0x20)], 0, up),
+        (&[(15, 0x21)], 15, up),
+        (&[(2, 0x10), (5, 0x10), (7, 0x10)], 5, down),
+        (&[(2, 0xF0), (5, 0x11)], 5, down),
+        (&[(2, 0xF0), (3, 0xF0), (5, 0x20), (9, 0x20)], 9, up),
+        (&[(2, 0x10), (5, 0x20), (9, 0x20), (12, 0x10)], 9, up),
+        (&[(2, 0x10), (5, 0x21), (9, 0x10)], 5, up),
+    ];
+    for (file, begins, version) in [(F, 31, 1), (F_2, 43, 2)] {
+        for (changes, at, sort) in cases {
+            let mut file = file.to_vec();
+            for (position, byte) in changes {
+                file[begins + position] = *byte;
+            }
+            for place in 0..file.len() {
+                let told = check_with_sum(&file, &format!("refused 16 {place}\n"));
+                assert_eq!(told.is_ok(), place == begins + at);
+            }
+            // Later checks do not come to it, and it does not run.
+            for number in 13..=15 {
+                let text = objection(&file, &format!("refused {number} 0\n"));
+                assert_eq!(text, format!("the byte at {at} of the schedule is idle"));
+            }
+            objection(&file, [F_OUTCOME, F_2_OUTCOME][version - 1]);
+            let name = format!("version {version} refused 16 {sort}");
+            let fault = idle::idle_at(&file, begins + at).unwrap();
+            let mut tally = Tally::default();
+            let layout = Layout::of(&file);
+            tally.refused(16, Some(fault.to_string()), layout).unwrap();
+            for kind in tally.kinds() {
+                assert_eq!(kind.count, u64::from(kind.name == name), "{}", kind.name);
+            }
+        }
+        let text = objection(file, &format!("refused 16 {begins}\n"));
+        assert_eq!(text, "no byte of the schedule is idle");
+        // All but these are allowed: a crash of all, and a step of one down.
+        let mut file = file.to_vec();
+        for (position, byte) in [(2, 0xF0), (3, 0xF0), (4, 0x20), (5, 0x10), (6, 0)] {
+            file[begins + position] = byte;
+        }
+        for place in 0..file.len() {
+            objection(&file, &format!("refused 16 {place}\n"));
+        }
+    }
 }
 
 /// The rows of case f begin at 15 and 23; the second is made faulty.
@@ -812,6 +869,9 @@ fn kinds_never_met_fail_the_check() {
         let refused = format!("never met: version {version} refused");
         for number in (4..=15).filter(|number| *number != 9 && *number != 11) {
             assert!(text.contains(&format!("{refused} {number}\n")));
+        }
+        for idle in ["a crash of one that is down", "a wake of one that is up"] {
+            assert!(text.contains(&format!("{refused} 16 for {idle}\n")));
         }
         let kind = "kind 3 or more";
         for field in ["process", kind, "word", "zero byte", "old of a read", "new"] {

@@ -1,12 +1,14 @@
-//! Faults by refusal number, so that each refusal is met often and at many
+//! Faults for every check, so that each refusal is met often and at many
 //! places, and several in one file so that the order of the checks matters.
 
 use super::draft::{Draft, DraftRow};
 use super::random::Random;
+use super::upright::{Upright, CRASH, CRASH_OF_ALL, WAKE};
 use crate::machine::Version;
 
-/// The refusals that the file alone can bring about.
-const REFUSALS_OF_THE_FILE: usize = 12;
+/// The refusals that the file alone can bring about, in the order of the
+/// checks: 1 to 12, and then 16.
+const REFUSALS_OF_THE_FILE: usize = 13;
 
 /// One fault of any number.
 pub fn single_fault(draft: Draft, random: &mut Random) -> Draft {
@@ -24,8 +26,8 @@ pub fn several_faults(draft: Draft, random: &mut Random) -> Draft {
 pub fn several_row_faults(draft: Draft, random: &mut Random) -> Draft {
     let mut draft = roomy(draft, random);
     for _ in 0..random.between(2, 5) {
-        let number = random.between(9, REFUSALS_OF_THE_FILE);
-        inflict(number, &mut draft, random);
+        let check = random.between(9, REFUSALS_OF_THE_FILE);
+        inflict(check, &mut draft, random);
     }
     draft
 }
@@ -33,8 +35,8 @@ pub fn several_row_faults(draft: Draft, random: &mut Random) -> Draft {
 fn faulty(draft: Draft, count: usize, random: &mut Random) -> Draft {
     let mut draft = roomy(draft, random);
     for _ in 0..count {
-        let number = random.between(1, REFUSALS_OF_THE_FILE);
-        inflict(number, &mut draft, random);
+        let check = random.between(1, REFUSALS_OF_THE_FILE);
+        inflict(check, &mut draft, random);
     }
     draft
 }
@@ -53,8 +55,9 @@ fn roomy(mut draft: Draft, random: &mut Random) -> Draft {
     draft.made_honest()
 }
 
-fn inflict(number: usize, draft: &mut Draft, random: &mut Random) {
-    match number {
+/// A fault by the place of its check in the order.
+fn inflict(check: usize, draft: &mut Draft, random: &mut Random) {
+    match check {
         1 => draft.cut = Some(random.one_of([0, 1, 3, 9, 10, 10])),
         2 => draft.mark[random.below(3)] ^= 1 << random.below(8),
         3 => draft.version = wrong_version(random),
@@ -66,7 +69,8 @@ fn inflict(number: usize, draft: &mut Draft, random: &mut Random) {
         9 => wrong_field(draft, random),
         10 => wrong_row_order(draft, random),
         11 => equal_for_equal(draft, random),
-        _ => no_action(draft, random),
+        12 => no_action(draft, random),
+        _ => idle_byte(draft, random),
     }
 }
 
@@ -222,6 +226,25 @@ fn no_action(draft: &mut Draft, random: &mut Random) {
     let at = random.below(draft.schedule.len());
     if let Some(slot) = draft.schedule.get_mut(at) {
         *slot = byte;
+    }
+}
+
+/// Refusal 16: a wake of one that is up or a crash of one that is down, at any
+/// place of the schedule. Now and then a crash is put in front of it; so there
+/// is one that is down.
+fn idle_byte(draft: &mut Draft, random: &mut Random) {
+    let process = random.below(draft.processes.clamp(1, 16).into()) as u8;
+    let at = random.below(draft.schedule.len());
+    let upright = Upright::behind(&draft.schedule[..at]);
+    let crash = random.one_of([CRASH | process, CRASH_OF_ALL]);
+    let is_up = upright.is_up(process);
+    match draft.schedule.get_mut(at..) {
+        Some([first, second, ..]) if is_up && random.percent(45) => {
+            (*first, *second) = (crash, CRASH | process);
+        }
+        Some([slot, ..]) if is_up => *slot = WAKE | process,
+        Some([slot, ..]) => *slot = CRASH | process,
+        _ => {}
     }
 }
 

@@ -8,6 +8,7 @@ pub mod random;
 mod raw;
 mod scenes;
 mod script;
+mod upright;
 mod valid;
 
 use std::io::{self, BufWriter, Write};
@@ -250,6 +251,40 @@ mod tests {
             let fullest = fullest_draft(version, &mut random).bytes();
             assert_eq!(fullest.len(), version.longest_file());
         }
+    }
+
+    /// "generator: valid files have no such byte": of every flavour.
+    #[test]
+    fn valid_files_have_no_idle_byte() {
+        let mut random = Random::seeded(43);
+        let mut drafts = Vec::new();
+        for version in VERSIONS {
+            for _ in 0..400 {
+                drafts.push(valid_draft(version, &mut random));
+                drafts.push(short_draft(version, &mut random));
+            }
+            drafts.push(fullest_draft(version, &mut random));
+            for mood in [Mood::Calm, Mood::Racing] {
+                drafts.push(long_draft(version, mood, &mut random));
+            }
+            drafts.push(quiet_draft(version, &mut random));
+        }
+        drafts.push(short_advance_draft(&mut random));
+        let (mut crashes, mut wakes) = (0, 0);
+        for draft in drafts {
+            let mut upright = upright::Upright::at_first();
+            assert!(draft.schedule.iter().all(|byte| upright.takes(*byte)));
+            let of = |high: u8| {
+                draft
+                    .schedule
+                    .iter()
+                    .filter(|byte| **byte >> 4 == high)
+                    .count()
+            };
+            crashes += of(1);
+            wakes += of(2);
+        }
+        assert!(crashes > 2_000 && wakes > 2_000, "{crashes} and {wakes}");
     }
 
     /// The version of each record, as its header gives it, if it has one.

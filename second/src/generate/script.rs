@@ -7,11 +7,8 @@
 
 use super::draft::{Draft, DraftRow, Palette};
 use super::random::Random;
+use super::upright::{Upright, CRASH, CRASH_OF_ALL, WAKE};
 use crate::machine::Version;
-
-const CRASH: u8 = 0x10;
-const WAKE: u8 = 0x20;
-const CRASH_OF_ALL: u8 = 0xF0;
 
 /// A start takes 3 steps, its three stores; then the row is open.
 pub const START_STEPS: usize = 3;
@@ -47,6 +44,7 @@ pub struct Script<'r> {
     /// The rows of each process, in the order in which it is to do them.
     rows: Vec<Vec<DraftRow>>,
     schedule: Vec<u8>,
+    up: Upright,
 }
 
 /// An operation that a scene has opened.
@@ -110,6 +108,7 @@ impl<'r> Script<'r> {
             start_words,
             rows: vec![Vec::new(); size.processes],
             schedule: Vec::new(),
+            up: Upright::at_first(),
             random,
         }
     }
@@ -140,14 +139,22 @@ impl<'r> Script<'r> {
         self.schedule.extend(vec![process as u8; count]);
     }
 
+    /// A byte, unless it is idle: such a one has no place in a valid file. So
+    /// one that is to wake is awake behind it, and one that is to crash is down.
+    fn push(&mut self, byte: u8) {
+        if self.up.takes(byte) {
+            self.schedule.push(byte);
+        }
+    }
+
     pub fn wake(&mut self, process: usize) {
-        self.schedule.push(WAKE | process as u8);
+        self.push(WAKE | process as u8);
     }
 
     /// A crash of one, or now and then of all with the others woken again.
     pub fn crash(&mut self, process: usize) {
         if self.random.percent(85) {
-            self.schedule.push(CRASH | process as u8);
+            self.push(CRASH | process as u8);
             return;
         }
         self.crash_all();
@@ -157,10 +164,11 @@ impl<'r> Script<'r> {
     }
 
     pub fn crash_all(&mut self) {
-        self.schedule.push(CRASH_OF_ALL);
+        self.push(CRASH_OF_ALL);
     }
 
-    /// Any byte that is an action, also if it changes nothing.
+    /// Any byte that is an action, also if it changes nothing, as a step of one
+    /// that is down; in place of an idle one a step.
     pub fn any_action(&mut self) {
         let process = self.any_process() as u8;
         let byte = self.random.weighted([
@@ -169,7 +177,8 @@ impl<'r> Script<'r> {
             (28, WAKE | process),
             (2, CRASH_OF_ALL),
         ]);
-        self.schedule.push(byte);
+        let byte = if self.up.is_idle(byte) { process } else { byte };
+        self.push(byte);
     }
 
     /// A row that changes the word's value as guessed: a swap of it, or an

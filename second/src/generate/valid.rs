@@ -4,6 +4,7 @@ use super::draft::{Draft, DraftRow, Palette};
 use super::random::Random;
 use super::scenes::{write_scenes, Mood};
 use super::script::{Size, SHORT_STEPS, STEPS_TO_A3};
+use super::upright::{Upright, CRASH, CRASH_OF_ALL, WAKE};
 use crate::machine::{Version, LONGEST_SCHEDULE, MOST_PROCESSES, MOST_ROWS, MOST_WORDS};
 
 /// Three stores, A1, A5 and A6.
@@ -67,7 +68,7 @@ pub fn quiet_draft(version: Version, random: &mut Random) -> Draft {
     while schedule.len() < LONGEST_SCHEDULE {
         let process = random.below(processes.into()) as u8;
         // V1, V2 and V3: one more step would answer.
-        schedule.extend([0x10 | process, 0x20 | process, process, process, process]);
+        schedule.extend([CRASH | process, WAKE | process, process, process, process]);
     }
     schedule.truncate(LONGEST_SCHEDULE);
     Draft::honest(
@@ -149,7 +150,7 @@ fn any_size(version: Version, random: &mut Random) -> Size {
 }
 
 /// Any rows of few values, and a schedule in bursts of one process, with
-/// crashes and wakes wherever they fall.
+/// crashes and wakes wherever they fall, unless they are idle there.
 fn write_wild(size: Size, random: &mut Random) -> Draft {
     let mut palette = Palette::pick(size.version, random);
     if size.version == Version::Two {
@@ -174,20 +175,22 @@ fn write_wild(size: Size, random: &mut Random) -> Draft {
 fn wild_schedule(size: Size, random: &mut Random) -> Vec<u8> {
     let longest_burst = random.one_of([1, 3, 10]);
     let crashes = random.one_of([0, 2, 8]);
+    let mut upright = Upright::at_first();
     let mut schedule = Vec::new();
     while schedule.len() < size.schedule {
         let process = random.below(size.processes) as u8;
         let burst = random.between(1, longest_burst);
-        schedule.extend(vec![process; burst]);
+        let mut bytes = vec![process; burst];
         if random.percent(crashes) {
-            schedule.push(0x10 | process);
+            bytes.push(CRASH | process);
         }
         if random.percent(crashes * 3) {
-            schedule.push(0x20 | random.below(size.processes) as u8);
+            bytes.push(WAKE | random.below(size.processes) as u8);
         }
         if random.percent(crashes) && random.percent(10) {
-            schedule.push(0xF0);
+            bytes.push(CRASH_OF_ALL);
         }
+        schedule.extend(bytes.into_iter().filter(|byte| upright.takes(*byte)));
     }
     schedule.truncate(size.schedule);
     schedule

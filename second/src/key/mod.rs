@@ -1,5 +1,5 @@
 //! Change request 3: one byte of a schedule, carried out over a lent list of
-//! process records and the lent buffers.
+//! process records and the lent buffers; with refusal 16 of change request 7.
 
 mod log_buffer;
 mod record;
@@ -55,7 +55,8 @@ pub fn key(
     buffers: &mut Buffers,
     press: Press,
 ) -> Result<Counts, Refusal> {
-    // "the panel lends the run file too, and 1 to 12 come from it"
+    // "the panel lends the run file too, and 1 to 12 come from it"; 16 does
+    // not: "on the panel only for the key byte" (change request 7).
     let file = RunFile::read(file)?;
     check_room(&file, records, buffers, press.counts)?;
     check_state(&file, records, press.position)?;
@@ -66,7 +67,20 @@ pub fn key(
             place: 0,
         });
     };
+    refuse_if(is_idle(action, records), Cause::IdleByte)?;
     Ok(act(&file, records, buffers, action, press))
+}
+
+/// Refusal 16: "A crash of a process already down, or a wake of one already
+/// up", by its record as it stands. "F0 is always allowed, and so is a step of
+/// a process that is down."
+fn is_idle(action: Action, records: &[Record]) -> bool {
+    let is_down = |process: usize| records[process].status == Status::Down;
+    match action {
+        Action::Crash(process) => is_down(process),
+        Action::Wake(process) => !is_down(process),
+        Action::Step(_) | Action::CrashOfAll => false,
+    }
 }
 
 /// "then 13 also for a list shorter than P; 14 and 15 mean no room for one

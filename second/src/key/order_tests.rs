@@ -1,17 +1,23 @@
 //! The refusals of a key in their order: "1 to 12 come from [the file]; then
 //! 13 also for a list shorter than P; 14 and 15 mean no room for one more row;
 //! 21 ...; 22, a key byte that is no action. Places of 13 on are 0, and
-//! nothing is changed." That nothing is changed is asserted by the bench.
+//! nothing is changed." By change request 7 there is 16 "only for the key byte,
+//! after 22, place 0". That nothing is changed is asserted by the bench.
 
-use super::test_bench::{swapping, Bench};
-use super::{Record, Status};
+use crate::machine::Store;
+
+use super::test_bench::{at, swapping, Bench};
+use super::{Record, Stage, Status};
 
 /// From the last check to the first: each fault is added in front.
 #[test]
 fn checks_go_in_their_order() {
     let mut bench = Bench::new();
     assert_eq!(bench.refusal(), None);
-    bench.byte = 0x30;
+    bench.byte = 0x21;
+    assert_eq!(bench.refusal(), Some((16, 0)));
+    // No action at all, though its low bits name one that is up.
+    bench.byte = 0x31;
     assert_eq!(bench.refusal(), Some((22, 0)));
     bench.records[1].begun = 2;
     assert_eq!(bench.refusal(), Some((21, 0)));
@@ -112,8 +118,55 @@ fn a_key_byte_that_is_no_action() {
     for byte in 0..=u8::MAX {
         let mut bench = Bench::with(0, swapping(Status::Down));
         bench.byte = byte;
-        let is_action = matches!(byte, 0x00 | 0x01 | 0x10 | 0x11 | 0x20 | 0x21 | 0xF0);
-        let refusal = (!is_action).then_some((22, 0));
+        let refusal = match byte {
+            // Process 0 is down, process 1 is up.
+            0x00 | 0x01 | 0x11 | 0x20 | 0xF0 => None,
+            0x10 | 0x21 => Some((16, 0)),
+            _ => Some((22, 0)),
+        };
         assert_eq!(bench.refusal(), refusal, "{byte:02x}");
     }
+}
+
+/// By the record as it stands, whatever it is doing; the file's own schedule,
+/// in which process 1 is woken while it is up, has no say.
+#[test]
+fn an_idle_key() {
+    let statuses = [
+        Status::Down,
+        Status::Idle,
+        Status::Announcing(Store::ClearCheckpoint),
+        Status::Announcing(Store::OpenRow),
+        at(Stage::A1),
+        at(Stage::A4),
+        at(Stage::V1),
+        at(Stage::V6),
+    ];
+    for status in statuses {
+        let open_row = matches!(status, Status::Down | Status::AtWork(_)).then_some(0);
+        let record = Record {
+            status,
+            open_row,
+            begun: 1,
+            ..Record::AT_FIRST
+        };
+        let is_down = status == Status::Down;
+        for (byte, idle) in [
+            (0x00, false),
+            (0x10, is_down),
+            (0x20, !is_down),
+            (0xF0, false),
+        ] {
+            let mut bench = Bench::with(0, record);
+            bench.byte = byte;
+            assert_eq!(bench.refusal(), idle.then_some((16, 0)), "{byte:02x}");
+        }
+    }
+    // All are down.
+    let mut bench = Bench::new();
+    for record in &mut bench.records {
+        record.status = Status::Down;
+    }
+    bench.byte = 0xF0;
+    assert_eq!(bench.after(), bench);
 }

@@ -25,11 +25,19 @@ fn assert_refused(process: usize, record: Record) {
     }
 }
 
+/// By 21, and by nothing else but 16 where the key is idle.
 fn assert_accepted(process: usize, record: Record) {
     for byte in [0x00, 0x01, 0x10, 0x11, 0x20, 0x21, 0xF0] {
         let mut bench = Bench::with(process, record);
         bench.byte = byte;
-        assert_eq!(bench.refusal(), None, "{record:?}");
+        let is_down = bench.records[usize::from(byte & 1)].status == Status::Down;
+        let idle = match byte >> 4 {
+            1 => is_down,
+            2 => !is_down,
+            _ => false,
+        };
+        let refusal = idle.then_some((16, 0));
+        assert_eq!(bench.refusal(), refusal, "{record:?}");
     }
 }
 

@@ -433,8 +433,8 @@ fn a_crash_takes_the_status_and_nothing_else() {
         let mut expected = bench.clone();
         expected.records[0] = down(before);
         assert_eq!(bench.after(), expected);
-        // Of one that is down already it changes nothing.
-        assert_eq!(expected.after(), expected);
+        // One that is down already is not to be crashed: change request 7.
+        assert_eq!(expected.refusal(), Some((16, 0)));
     }
 }
 
@@ -443,7 +443,7 @@ fn a_wake_goes_to_v1_or_idle() {
     for before in awake() {
         let mut bench = Bench::with(0, before);
         bench.byte = 0x20;
-        assert_eq!(bench.after(), bench, "awake already");
+        assert_eq!(bench.refusal(), Some((16, 0)), "awake already");
         bench.records[0] = down(before);
         let mut expected = bench.clone();
         expected.records[0].status = match before.open_row {
@@ -467,11 +467,17 @@ fn records_not_named_and_records_beyond_p() {
         for named in awake() {
             let mut bench = Bench::new();
             bench.records = vec![named, other, Record::AT_FIRST, of_no_process];
-            for byte in [0x00, 0x10, 0x20] {
+            // A wake of the one and a crash or a wake of the other are idle.
+            for byte in [0x00, 0x10] {
                 bench.byte = byte;
                 assert_eq!(bench.after().records[1..], bench.records[1..]);
             }
-            for byte in [0x01, 0x11, 0x21] {
+            let turn = if other.status == Status::Down {
+                0x21
+            } else {
+                0x11
+            };
+            for byte in [0x01, turn] {
                 bench.byte = byte;
                 let after = bench.after();
                 assert_eq!(after.records[0], bench.records[0]);

@@ -13,7 +13,7 @@ const FILE: [u8; 47] = [
     0, 1, 0, 0, 7, 0, 8, 0, // row 0: p0, word 0, 7>8
     0, 0, 1, 0, 0, 0, 0, 0, // row 1: p0 reads word 1
     1, 1, 1, 0, 9, 0, 7, 0, // row 2: p1, word 1, 9>7
-    0, 0x10, 0x21, 0xF0, // schedule
+    0, 0x10, 0x21, 0xF0, // schedule: its wake is idle, which is no concern of a key
 ];
 
 /// The same counts in a file of version 2 with an advance for each process: the

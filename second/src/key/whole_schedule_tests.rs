@@ -6,7 +6,7 @@
 use crate::generate::{records as generated, Flavour};
 use crate::keys::schedule;
 use crate::machine::{run, Buffers, Ran, RunFile, Version};
-use crate::stream::Record as StreamRecord;
+use crate::stream::{Lengths, Record as StreamRecord};
 
 use super::test_bench::swapping;
 use super::{key, Counts, Press, Record, Status};
@@ -133,6 +133,47 @@ fn files_with_the_longest_schedule_end_as_their_runs_do() {
         let (files, rows) = hold_all(33, 20, flavour);
         assert!(files == 20 && rows > 1_000, "{files} files, {rows} rows");
     }
+}
+
+/// Who is down by the records: what 16 tells from the bytes alone is what they
+/// come to. Every schedule of the files is stepped through, idle bytes and all:
+/// the first key that is refused by 16 is the byte at which the run is refused.
+#[test]
+fn a_run_is_refused_by_16_at_the_first_key_that_is() {
+    let mut refused = 0;
+    for record in generated(35, 4_000, Flavour::Short) {
+        let Ok(bytes) = schedule(&record.file) else {
+            continue;
+        };
+        let roomy = StreamRecord {
+            lengths: Lengths {
+                words: 16,
+                log: 5_120,
+                answers: 5_120,
+            },
+            ..record.clone()
+        };
+        let mut bench = Bench::at_first(&roomy);
+        let first = (0..).zip(bytes).find_map(|(position, byte)| {
+            let press = Press {
+                byte: *byte,
+                position,
+                counts: bench.counts,
+            };
+            let pressed = key(bench.file, &mut bench.records, &mut bench.buffers, press);
+            bench.counts = *pressed.as_ref().unwrap_or(&bench.counts);
+            let refusal = pressed.err()?;
+            Some((refusal.number(), position as usize))
+        });
+        let begins = record.file.len() - bytes.len();
+        let first = first.map(|(number, position)| (number, begins + position));
+        let refusal = run(&record.file, &mut filled(&record)).err();
+        let refusal = refusal.map(|refusal| (refusal.number(), refusal.place));
+        // Short buffers are refused by later checks.
+        assert_eq!(first, refusal.filter(|(number, _)| *number == 16));
+        refused += usize::from(first.is_some());
+    }
+    assert!(refused > 50, "{refused} refused by 16");
 }
 
 /// Not only at the end: after every byte the buffers are those of a run that

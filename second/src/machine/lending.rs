@@ -30,6 +30,7 @@ pub struct Ran {
 /// One run over a file. On a refusal "all three buffers stay untouched".
 pub fn run(file: &[u8], buffers: &mut Buffers) -> Result<Ran, Refusal> {
     let file = RunFile::read(file)?;
+    file.check_idle()?;
     buffers.check(&file)?;
     let outcome = carry_out(&file);
     buffers.write(&outcome);

@@ -103,7 +103,7 @@ impl Process {
     }
 
     /// "Crash: an awake process goes down." For one that is down already
-    /// this changes nothing.
+    /// this changes nothing: a crash of all may meet such a one.
     pub fn crash(&mut self) {
         self.status = Status::Down;
     }

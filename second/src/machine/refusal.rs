@@ -1,4 +1,4 @@
-//! The table "Refusal numbers", and the numbers of change request 3.
+//! The table "Refusal numbers", and the numbers of change requests 3 and 7.
 
 /// Why a file or a key is refused; each case has its number.
 #[derive(Clone, Copy, Debug, PartialEq, Eq)]
@@ -38,6 +38,10 @@ pub enum Cause {
     LogBuffer = 14,
     /// "answers buffer under 5 × S"; for a key the same as 14
     AnswersBuffer = 15,
+    /// "A crash of a process already down, or a wake of one already up" (change
+    /// request 7): in a schedule "checked straight after 12 and before 13", for
+    /// a key "after 22"
+    IdleByte = 16,
     /// of a key only: a position over 1,023, or a record that no run comes to
     PanelState = 21,
     /// "a key byte that is no action"

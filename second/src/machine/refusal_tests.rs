@@ -10,7 +10,7 @@ const FILE: [u8; 47] = [
     0, 1, 0, 0, 7, 0, 8, 0, // p0, word 0, 7>8
     0, 0, 1, 0, 0, 0, 0, 0, // p0 reads word 1
     1, 1, 1, 0, 9, 0, 7, 0, // p1, word 1, 9>7
-    0, 0x10, 0x21, 0xF0, // schedule
+    0, 0x10, 0x20, 0xF0, // schedule
 ];
 
 fn lent(words: usize, log: usize, answers: usize) -> Buffers {
@@ -172,6 +172,67 @@ fn refusals_10_to_12_with_their_places() {
     }
 }
 
+/// The file with this schedule.
+fn with_schedule(schedule: &[u8]) -> Vec<u8> {
+    let mut file = FILE[..43].to_vec();
+    file[9] = schedule.len() as u8;
+    file.extend(schedule);
+    file
+}
+
+/// "A crash of a process already down, or a wake of one already up", at the
+/// "place of the first such byte" (change request 7). The schedule begins at 43.
+#[test]
+fn refusal_16_for_idle_crashes_and_wakes() {
+    for (schedule, at) in [
+        (&[0x20][..], 0),
+        (&[0x21], 0),
+        (&[0x10, 0x10], 1),
+        (&[0x10, 0x00, 0x10], 2),
+        (&[0x10, 0x21], 1),
+        (&[0xF0, 0x11], 1),
+        (&[0xF0, 0x20, 0x20], 2),
+        (&[0xF0, 0x20, 0x10, 0x20, 0x11], 4),
+        (&[0x10, 0x20, 0x21, 0x20], 2),
+    ] {
+        assert_eq!(refused(&with_schedule(schedule)), Some((16, 43 + at)));
+        // With or without what stands behind it.
+        let longer = [schedule, &[0x00, 0x10, 0xF0, 0xF0]].concat();
+        assert_eq!(refused(&with_schedule(&longer)), Some((16, 43 + at)));
+        // Every check before it goes over the whole file first.
+        let longer = [schedule, &[0x30]].concat();
+        let place = 43 + schedule.len();
+        assert_eq!(refused(&with_schedule(&longer)), Some((12, place)));
+        assert_eq!(refused(&with_schedule(&schedule[..at])), None);
+    }
+}
+
+/// "F0 is always allowed, and so is a step of a process that is down."
+#[test]
+fn what_is_not_refused_by_16() {
+    for schedule in [
+        &[0xF0, 0xF0, 0xF0][..],
+        &[0x10, 0xF0, 0x20, 0x21],
+        &[0x10, 0x11, 0xF0, 0xF0, 0x21],
+        &[0x10, 0x00, 0x00, 0x01, 0x20],
+        &[0x10, 0x20, 0x10, 0x20],
+        &[0x11, 0x10, 0x20, 0x21],
+        // A step of one that is idle with no rows left, too.
+        &[1; 20],
+    ] {
+        assert_eq!(refused(&with_schedule(schedule)), None);
+    }
+}
+
+/// Processes that are not there: their bytes are no action, so 12 goes before.
+#[test]
+fn a_process_that_is_not_there_is_refused_by_12() {
+    for byte in [0x12, 0x22, 0x1F, 0x2F] {
+        assert_eq!(refused(&with_schedule(&[0x20, byte])), Some((12, 44)));
+        assert_eq!(refused(&with_schedule(&[byte, byte])), Some((12, 43)));
+    }
+}
+
 /// "Each check goes over the whole file before the next begins, and the first
 /// offender is reported."
 #[test]
@@ -185,6 +246,8 @@ fn checks_go_in_the_order_of_the_table() {
         assert_eq!(refused_with(&file, lent(0, 0, 0)), Some((number, place)));
     };
     expect(&[], 13, 0);
+    expect(&[(46, 0x21)], 16, 46);
+    expect(&[(45, 0x10)], 16, 45);
     expect(&[(45, 0x30)], 12, 45);
     expect(&[(43, 0xF1)], 12, 43);
     expect(&[(23, 8)], 11, 19);

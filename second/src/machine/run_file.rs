@@ -1,24 +1,28 @@
-//! Reading a run file, with refusals 1 to 12.
+//! Reading a run file, with refusals 1 to 12, and refusal 16.
 //!
 //! "Checks go in this order. Each check goes over the whole file before the
 //! next begins, and the first offender is reported." So every check below is
-//! a pass of its own, and the passes stand in the order of the table.
+//! a pass of its own, and the passes stand in the order of the table; 16 comes
+//! "straight after 12 and before 13" (change request 7).
 
 use super::action::Action;
+use super::idle::first_idle;
 use super::refusal::{refuse_at, refuse_if, Cause, Refusal};
 use super::row::{Field, Row};
 use super::version::{Version, LONGEST_SCHEDULE, MOST_PROCESSES, MOST_ROWS, MOST_WORDS};
 use super::word::Word;
 
-/// A run file in which nothing is left to refuse: every process and word that
-/// a row or an action names is there, and rows stand in order of process. Of
-/// which version it was can no longer be told.
+/// A run file in which 1 to 12 find nothing to refuse: every process and word
+/// that a row or an action names is there, and rows stand in order of process.
+/// Of which version it was can no longer be told.
 #[derive(Debug)]
 pub struct RunFile {
     pub processes: usize,
     pub words: Vec<Word>,
     pub rows: Vec<Row>,
     pub schedule: Vec<Action>,
+    /// Where the schedule begins in the file.
+    schedule_begins: usize,
 }
 
 /// The header's numbers, not yet trusted.
@@ -40,6 +44,7 @@ struct Parts<'f> {
 }
 
 impl RunFile {
+    /// Refusals 1 to 12, which a panel's file has, too.
     pub fn read(file: &[u8]) -> Result<RunFile, Refusal> {
         let (header, body) = Header::split_from(file)?;
         let version = header.check()?;
@@ -51,7 +56,15 @@ impl RunFile {
             words: version.words(parts.words),
             rows,
             schedule,
+            schedule_begins: header.schedule_begins(version),
         })
+    }
+
+    /// Refusal 16, at the "place of the first such byte". Only of a file that
+    /// is to be run: "on the panel only for the key byte".
+    pub fn check_idle(&self) -> Result<(), Refusal> {
+        let idle = first_idle(&self.schedule, self.processes);
+        refuse_at(idle.map(|at| self.schedule_begins + at), Cause::IdleByte)
     }
 }
 
@@ -143,8 +156,13 @@ impl Header {
             .map(|byte| Action::decode(*byte, self.processes))
             .collect();
         let no_action = decoded.iter().position(Option::is_none);
-        let schedule_begins = version.row_place(self.words, self.rows);
+        let schedule_begins = self.schedule_begins(version);
         refuse_at(no_action.map(|at| schedule_begins + at), Cause::NoAction)?;
         Ok(decoded.into_iter().flatten().collect())
+    }
+
+    /// "The schedule is the part of the file that begins after the last row."
+    fn schedule_begins(&self, version: Version) -> usize {
+        version.row_place(self.words, self.rows)
     }
 }

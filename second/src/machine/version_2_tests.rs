@@ -12,7 +12,7 @@ const FILE: [u8; 67] = [
     0, 1, 0, 0, 7, 0, 0, 0x80, 7, 0, 1, 0x80, // p0, word 0: to 65,536 more
     0, 0, 1, 0, 0, 0, 0, 0, 0, 0, 0, 0, // p0 reads word 1
     1, 1, 1, 0, 9, 0, 1, 0, 9, 0, 2, 0, // p1, word 1: to 65,536 more
-    0, 0x10, 0x21, 0xF0, // schedule
+    0, 0x10, 0x20, 0xF0, // schedule
 ];
 
 fn lent() -> Buffers {
@@ -98,6 +98,17 @@ fn refusals_10_to_12_with_their_places() {
         assert_eq!(refused(&with(&[(63, byte)])), Some((12, 63)));
         assert_eq!(refused(&with(&[(66, byte)])), Some((12, 66)));
     }
+}
+
+/// The schedule begins at 63.
+#[test]
+fn refusal_16_with_its_place() {
+    for (at, byte) in [(63, 0x20), (65, 0x10), (65, 0x21), (66, 0x20), (66, 0x21)] {
+        assert_eq!(refused(&with(&[(at, byte)])), Some((16, at)));
+    }
+    assert_eq!(refused(&with(&[(64, 0xF0)])), None);
+    assert_eq!(refused(&with(&[(64, 0xF0), (66, 0x20)])), Some((16, 66)));
+    assert_eq!(refused(&with(&[(64, 0xF0), (66, 0x21)])), None);
 }
 
 /// Old and new that differ in one bit only are no equals.

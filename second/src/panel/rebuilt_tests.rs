@@ -79,6 +79,11 @@ fn the_lines_of_a_whole_schedule_tell_the_outcome_of_the_run() {
             let keys: String = bytes.map(|byte| format!("{byte:02x}\n")).collect();
             let ran = printed(|out| print_run(file, out));
             let told = printed(|out| panel(file, &mut keys.as_bytes(), out));
+            if ran.starts_with("refused 16 ") {
+                // On the panel it is the key that is refused, not the file.
+                assert!(told.starts_with("run ") && told.contains("refused 16 0\n"));
+                continue;
+            }
             if ran.starts_with("refused") {
                 assert_eq!(told, ran);
                 continue;

@@ -226,7 +226,8 @@ log 15 0 1 1 0 at 1
 /// Neither a line that is no key nor a refused key moves the position.
 #[test]
 fn the_position_stays_where_nothing_is_done() {
-    let keys = "# a comment\n\n \t\r\nzero\n30\n02\n12\n2F\nf1\nE # 14\nF0 # all\nF0\n003\n2 1\n20";
+    let keys = "# a comment\n\n \t\r\nzero\n30\n02\n12\n2F\nf1\nE # 14\n21\nF0 # all\nF0\n003\n\
+                2 1\n11\n00\n20\n20";
     let expected = "\
 run 2 1 2 0
 word 0 7 0
@@ -243,6 +244,8 @@ key 0 f1 crash all
 refused 22 0
 key 0 0e step 14
 refused 22 0
+key 0 21 wake 1
+refused 16 0
 key 0 f0 crash all
 process 0 stage down
 process 1 stage down
@@ -250,8 +253,14 @@ key 1 f0 crash all
 nothing
 not a key
 not a key
-key 2 20 wake 0
+key 2 11 crash 1
+refused 16 0
+key 2 00 step 0
+nothing
+key 3 20 wake 0
 process 0 stage idle
+key 4 20 wake 0
+refused 16 0
 ";
     assert_eq!(printed(&case_f(), keys), expected);
 }
@@ -269,17 +278,19 @@ fn a_last_line_without_newline_is_a_line_like_the_others() {
         let file = case_f();
         assert_eq!(printed(&file, keys), printed(&file, with_newline));
     }
-    assert!(printed(&case_f(), "20\nx").ends_with("nothing\nnot a key\n"));
+    assert!(printed(&case_f(), "f0\nx").ends_with("process 1 stage down\nnot a key\n"));
 }
 
-/// "21, a position over 1,023", which goes before 22.
+/// "21, a position over 1,023", which goes before 22 and 16.
 #[test]
 fn the_last_position_is_1023() {
-    let keys = times(1_024, "20") + "20\n30\nx\n";
+    let keys = times(1_024, "f0") + "20\n10\n30\nx\n";
     let expected = "\
-key 1023 20 wake 0
+key 1023 f0 crash all
 nothing
 key 1024 20 wake 0
+refused 21 0
+key 1024 10 crash 0
 refused 21 0
 key 1024 30 none
 refused 21 0
@@ -295,6 +306,9 @@ fn the_files_own_schedule_is_not_carried_out() {
     file[9] = 3;
     file.extend([0x00, 0x10, 0xF0]);
     let expected = "run 2 1 2 3\nword 0 7 0\nkey 0 00 step 0\nprocess 0 stage N2\n";
+    assert_eq!(printed(&file, "0"), expected);
+    // Nor is it held against the panel that `run` refuses it by 16.
+    file[32] = 0x20;
     assert_eq!(printed(&file, "0"), expected);
 }
 
