@@ -18,7 +18,7 @@ use panel::Stroke;
 use runfile::Checked;
 use runfile::Header;
 use typed::Entry;
-ghost use Rattle.runfile.specs.Lawful.{Lawful, ample};
+ghost use Rattle.runfile.specs.Lawful.{LawfulFile};
 ghost use Rattle.bench_panel.specs.Promises.{Lends};
 ghost use mathlib.Core.Path.{_≡_};
 
@@ -225,7 +225,7 @@ fn take_lines(file: &[u8], first: Bench, out: &mut [u8], log: &mut [u32], answer
 
 // The words that the file starts from.
 fn start_words(file: &[u8], header: Header) -> [u64; 16]
-    requires { ⌜ Lawful header (now file) ample ⌝ }
+    requires { ⌜ LawfulFile header (now file) ⌝ }
 {
     let count = runfile::index8(header.words);
     let mut words = [0u64; 16];
@@ -235,8 +235,9 @@ fn start_words(file: &[u8], header: Header) -> [u64; 16]
 
 // The panel over a file that is accepted: all processes idle, nothing logged and nothing answered.
 fn start(file: &[u8], header: Header, words: [u64; 16]) {
-    // Room for the lines of a key, whatever it changes: a first line of at most 22 bytes; six of at most 35 for each of
-    // sixteen processes; one of 30 for each of sixteen words; a log row of 37 and an answer row of 32. That is 3,931 bytes.
+    // Room for the lines of a key, whatever it changes: a first line of at most 22 bytes; seven of at most 176 together for
+    // each of sixteen processes; one of 30 for each of sixteen words; a log row of 37 and an answer row of 32. That is 3,387
+    // bytes.
     let mut out = [0u8; 4096];
     // 1,024 rows of each kind: a key at a position over 1,023 is refused, and a key adds one row at most.
     let mut log = [0u32; 5120];

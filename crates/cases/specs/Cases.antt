@@ -7,6 +7,7 @@ use lib.ListN.{length, replicate}
 use Rattle.runfile.specs.Format.{headSize, wordSize, rowSize, newPlace}
 use Rattle.runfile.specs.Layout.{u16At, u32At, u64At, widened, marked, headerIn, numberAt, rowAt}
 use Rattle.runfile.specs.Operations.{wordsOf, rowsFrom, tableOf, rowNumbered, first, count, names}
+use Rattle.runfile.specs.Ups.{upFrom, idles}
 use Rattle.runfile.specs.Refusals.{numberOf, badField, firstBadField, sameFields, badByte, firstRow, firstLaterRow, firstByte, refusalOf}
 use Rattle.word.specs.Word.{bitOf, turnOf, valueIn, flipsIn, bitIn, swappedIn}
 use Rattle.rows.specs.Entries.{isSwapped}
@@ -309,7 +310,7 @@ ended f =
 
 -- the statement: each file of the table ends as the table says (R295)
 pub cases : map (λ x. ended (x .file)) table ≡ map (λ x. x .says) table
-unfolding joined times version mark bytesOf zeros compares reads startsAt file four advances from alone loses-once recovered told-fail wraps capture old-typed by-nothing marks holds rowsAt twelve lentWords lentRows resultOf row comesTo isRefused a b c d e f g h i j k l table ended u16At u32At u64At widened marked headSize wordSize rowSize newPlace headerIn numberAt rowAt wordsOf rowsFrom tableOf rowNumbered first count names badField firstBadField sameFields badByte firstRow firstLaterRow firstByte refusalOf bitOf turnOf valueIn flipsIn bitIn swappedIn isSwapped onePast place insert isSwap firstSwap five infront spoken triedIn storingIn decideIn stepTurnIn turnIn apply applied procAt actIn stepIn afterIn begin endOf
+unfolding joined times version mark bytesOf zeros compares reads startsAt file four advances from alone loses-once recovered told-fail wraps capture old-typed by-nothing marks holds rowsAt twelve lentWords lentRows resultOf row comesTo isRefused a b c d e f g h i j k l table ended u16At u32At u64At widened marked headSize wordSize rowSize newPlace headerIn numberAt rowAt wordsOf rowsFrom tableOf rowNumbered first count names badField firstBadField sameFields badByte firstRow firstLaterRow firstByte idles upFrom refusalOf bitOf turnOf valueIn flipsIn bitIn swappedIn isSwapped onePast place insert isSwap firstSwap five infront spoken triedIn storingIn decideIn stepTurnIn turnIn apply applied procAt actIn stepIn afterIn begin endOf
 cases = refl
 
 -- and `run` gives nothing else: whatever meets its contract on a file, over what is lent here, is what `ended` says

@@ -86,5 +86,5 @@ module _ (f : List ℕ) (bytes : Bytes f) (words log answers : List ℕ) (n m : 
       go (checked.Refused why place) r e = absurd (let x : outcome.Ran n m ≡ outcome.Refused why place = e .result in let z : _≡_ {A = ℕ} 0 1 = cc in omega arith)
       go (checked.Accepted h) r e =
           let l : Lawful h f (roomOf words log answers) = lawful f (roomOf words log answers) h r in
-          subst Kept (l .header)
+          subst Kept (l .file .header)
           (λ a i. ap (λ ws. bit q (getD ws w 0)) (e .words-are) ∙ ap (bit q) (left h l i) ∙ absent-file f bytes h (roomOf words log answers) l q w a ∙ ap (bit q) (word-there (h .version) f (h .words) w i))

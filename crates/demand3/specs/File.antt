@@ -51,19 +51,19 @@ module _ (f : List ℕ) (bytes : Bytes f) where
 
     good : (k : ℕ) → k < h .rows → Good (h .words) (rowOf h f k)
     good k g =
-        good-row (h .words) (rowOf h f k) (l .rows k g .word) (new-fits f bytes (strideOf h) (rowPlace (strideOf h) (rowsStart h) k)) (l .differ k g)
+        good-row (h .words) (rowOf h f k) (l .file .rows k g .word) (new-fits f bytes (strideOf h) (rowPlace (strideOf h) (rowsStart h) k)) (l .file .differ k g)
 
     pub plan : Plan (h .processes) (length (wordsOf h f)) (tableOf h f)
     unfolding wordsOf
     plan =
         rw (length-wordsFrom (h .version) f (h .words))
         (record {
-          some-word = l .head .some-word;
+          some-word = l .file .head .some-word;
           good = λ k g. subst (Good (h .words)) (numbered k (within g)) (good k (within g));
-          present = λ k g. subst (λ r. r .process < h .processes) (numbered k (within g)) (l .rows k (within g) .process);
+          present = λ k g. subst (λ r. r .process < h .processes) (numbered k (within g)) (l .file .rows k (within g) .process);
           order = λ k g.
               subst (λ r. r .process ≤ rowNumbered (tableOf h f) (suc k) .process) (numbered k (let m : suc k < h .rows = within g in omega arith))
-              (subst (λ r. rowOf h f k .process ≤ r .process) (numbered (suc k) (within g)) (l .ordered k (within g)));
+              (subst (λ r. rowOf h f k .process ≤ r .process) (numbered (suc k) (within g)) (l .file .ordered k (within g)));
         })
 
     -- of the state at the end, which the contract of `run` speaks of
@@ -97,4 +97,4 @@ module _ (f : List ℕ) (bytes : Bytes f) where
       go (checked.Refused why place) q e = absurd (let x : outcome.Ran n m ≡ outcome.Refused why place = e .result in let z : _≡_ {A = ℕ} 0 1 = cc in omega arith)
       go (checked.Accepted h) q e =
           let l : Lawful h f (roomOf words log answers) = lawful f (roomOf words log answers) h q in
-          subst (λ g. OfFile g f (rowsOf n log′) (rowsOf m answers′) (map value (take (g .words) words′))) (l .header) (demand3-buffers h (roomOf words log answers) l words log answers n m words′ log′ answers′ e)
+          subst (λ g. OfFile g f (rowsOf n log′) (rowsOf m answers′) (map value (take (g .words) words′))) (l .file .header) (demand3-buffers h (roomOf words log answers) l words log answers n m words′ log′ answers′ e)

@@ -9,7 +9,7 @@ use native.Mathlib.Omega.{arith}
 use native.Mathlib.Nat.{zero-add}
 use lib.Dec.{eqb, ltb}
 use lib.ListN.{length, getD, set, take, drop, take-append-drop}
-use lib.Seq.{take-suc, take-take, take-length, length-take-le}
+use lib.Seq.{take-take, take-length, length-take-le}
 use borrow.Author.Tests.{eq-eqb, eqb-true, eqb-false, ltb-true, ltb-false}
 use Rattle.runfile.specs.declared.Row.{Row}
 use Rattle.runfile.specs.Operations.{first, count}
@@ -20,7 +20,7 @@ use Rattle.rows.specs.Entries.{said, isSwapped}
 use Rattle.machine.specs.declared.Opened.{Opened}
 use Rattle.machine.specs.declared.Opened.the-variants.{Closed, Open}
 use Rattle.machine.specs.Machine.{State, quiet, swaps, logs, replies, procAt, step, after, begin, afterIn}
-use Rattle.machine.specs.Laws.{after-join, after-snoc, closed-open}
+use Rattle.machine.specs.Laws.{after-join, after-next, closed-open}
 use Rattle.replay.specs.Lists.{All, all-put, all-join, all-right, keep-put-yes, append-empty-right, Found, keep-found}
 use Rattle.replay.specs.Logs.{Put, put}
 use Rattle.demand3.specs.Statement.{Firmware, of, ownerOf, isRow, Begun, StillOpen, Ended, swapsAt, stateAfter, LoggedThen, AnsweredThen}
@@ -74,10 +74,7 @@ module _ (rows : List Row) (words : List ℕ) (P : ℕ) (plan : Plan P (length w
   long n h = zero-add (length (take n schedule)) ∙ length-take-le n schedule h
 
   pub next : (n : ℕ) → n < length schedule → at (suc n) ≡ step rows n (byte n) (at n)
-  next n h =
-      ap (λ b. after rows 0 b (begin P words)) (take-suc schedule n 0 h)
-      ∙ after-snoc rows 0 (take n schedule) (byte n) (begin P words)
-      ∙ ap (λ t. step rows t (byte n) (at n)) (long n (omega arith))
+  next n h = after-next rows schedule n (begin P words) h
 
   pub along : (Q : ℕ → Type 0) → Q 0 → ((n : ℕ) → n < length schedule → Q n → Q (suc n)) → (n : ℕ) → n ≤ length schedule → Q n
   along Q z s zero h = z

@@ -8,8 +8,8 @@ use mathlib.Core.Logic.{_⊎_, inl, inr, ⊎-elim}
 use native.Mathlib.Nat.{add-zero, zero-add, suc-add, add-suc}
 use native.Mathlib.Omega.{arith}
 use lib.Dec.{eqb, ltb}
-use lib.ListN.{length, getD, set, replicate, length-map, List·getD-eq-default}
-use lib.Seq.{getD-set-same, getD-set-other, set-out}
+use lib.ListN.{length, getD, set, take, replicate, length-map, List·getD-eq-default}
+use lib.Seq.{take-suc, length-take-le, getD-set-same, getD-set-other, set-out}
 use borrow.Author.Tests.{ltb-true, ltb-false, eqb-true, eqb-false}
 use Rattle.runfile.specs.declared.Row.{Row}
 use Rattle.runfile.specs.Actions.{Action, step as steps, crash as crashes, wake as wakes, crashAll as crashesAll, none as idles, action, named}
@@ -26,7 +26,7 @@ use Rattle.machine.specs.declared.Opened.{Opened}
 use Rattle.machine.specs.declared.Opened.the-variants.{Closed, Open}
 use Rattle.machine.specs.declared.Status.{Status}
 use Rattle.machine.specs.declared.Status.the-variants.{Down, Idle, N2, N3, Busy}
-use Rattle.machine.specs.Records.{fresh, with-status, with-stored, with-checkpoint, Announcing, started, crashed, waked, wokenUp, rowOpen, WorkOpen}
+use Rattle.machine.specs.Records.{fresh, with-status, with-stored, with-checkpoint, Announcing, InWork, started, crashed, waked, wokenUp, rowOpen, WorkOpen}
 use Rattle.machine.specs.Turn.{Still, Quiet}
 use Rattle.machine.specs.Steps.{decide, decideIn, atWork, stepTurn, stepTurnIn}
 use Rattle.machine.specs.KindLaws.{read-leads, lost-leads, tried-leads, stored-leads}
@@ -42,26 +42,33 @@ pub after-snoc : (rows : List Row) (t : ℕ) (a : List ℕ) (b : ℕ) (s : State
 unfolding afterIn
 after-snoc rows t a b s = after-join rows t a (b ∷ []) s
 
+-- from n bytes of a schedule to one more
+pub after-next : (rows : List Row) (schedule : List ℕ) (n : ℕ) (s : State) → n < length schedule → after rows 0 (take (suc n) schedule) s ≡ step rows n (getD schedule n 0) (after rows 0 (take n schedule) s)
+after-next rows schedule n s h =
+    ap (λ bytes. after rows 0 bytes s) (take-suc schedule n 0 h)
+    ∙ after-snoc rows 0 (take n schedule) (getD schedule n 0) s
+    ∙ ap (λ t. step rows t (getD schedule n 0) (after rows 0 (take n schedule) s)) (zero-add (length (take n schedule)) ∙ length-take-le n schedule (omega arith))
+
 -- a turn of a process in the midst of work leaves it at work on the same row, or idle with none open; it begins no row
 pub data Goes (r : Process) : Process → Type 0 where
-  on : {next : Process} → next .opened ≡ r .opened → next .begun ≡ r .begun → (Announcing (next .status) → ⊥) → Goes r next
+  on : {next : Process} → next .opened ≡ r .opened → next .begun ≡ r .begun → InWork (next .status) → Goes r next
   ends : {next : Process} → next .opened ≡ Closed → next .status ≡ Idle → next .begun ≡ r .begun → Goes r next
 
 pub goes : (row : Row) (p t now : ℕ) (r : Process) (stage : Stage) (seen readAt triedAt : ℕ) (answer : Maybe) → Goes r (processOf r (decide row p t now r stage seen readAt triedAt answer))
 unfolding decideIn
-goes row p t now r A1 seen readAt triedAt answer = read-leads (λ st. Goes r (with-status st r)) row now t (on refl refl (λ x. x)) (λ a. on refl refl (λ x. x))
-goes row p t now r A2 seen readAt triedAt answer = on refl refl (λ x. x)
-goes row p t now r A3 seen readAt triedAt answer = on refl refl (λ x. x)
+goes row p t now r A1 seen readAt triedAt answer = read-leads (λ st. Goes r (with-status st r)) row now t (on refl refl tt) (λ a. on refl refl tt)
+goes row p t now r A2 seen readAt triedAt answer = on refl refl tt
+goes row p t now r A3 seen readAt triedAt answer = on refl refl tt
 goes row p t now r A4 seen readAt triedAt answer =
-    tried-leads (λ u. Goes r (processOf r u)) p t row now r seen readAt (λ x. on refl refl (λ x. x))
-    (lost-leads (λ st. Goes r (with-status st r)) (kindOf row) seen readAt t (on refl refl (λ x. x)) (on refl refl (λ x. x)))
+    tried-leads (λ u. Goes r (processOf r u)) p t row now r seen readAt (λ x. on refl refl tt)
+    (lost-leads (λ st. Goes r (with-status st r)) (kindOf row) seen readAt t (on refl refl tt) (on refl refl tt))
 goes row p t now r A5 seen readAt triedAt answer =
-    stored-leads (λ u. Goes r (processOf r u)) row (with-stored (Busy A6 seen readAt triedAt answer) answer r) seen readAt triedAt answer (on refl refl (λ x. x)) (λ a e. on refl refl (λ x. x)) (on refl refl (λ x. x))
+    stored-leads (λ u. Goes r (processOf r u)) row (with-stored (Busy A6 seen readAt triedAt answer) answer r) seen readAt triedAt answer (on refl refl tt) (λ a e. on refl refl tt) (on refl refl tt)
 goes row p t now r A6 seen readAt triedAt answer = ends refl refl refl
-goes row p t now r V1 seen readAt triedAt answer = on refl refl (λ x. x)
-goes row p t now r V2 seen readAt triedAt answer = on refl refl (λ x. x)
-goes row p t now r V3 seen readAt triedAt answer = on refl refl (λ x. x)
-goes row p t now r V4 seen readAt triedAt answer = on refl refl (λ x. x)
+goes row p t now r V1 seen readAt triedAt answer = on refl refl tt
+goes row p t now r V2 seen readAt triedAt answer = on refl refl tt
+goes row p t now r V3 seen readAt triedAt answer = on refl refl tt
+goes row p t now r V4 seen readAt triedAt answer = on refl refl tt
 goes row p t now r V5 seen readAt triedAt answer = ends refl refl refl
 goes row p t now r V6 seen readAt triedAt answer = ends refl refl refl
 
@@ -172,6 +179,14 @@ pub record Sane (rows : List Row) (p : ℕ) (r : Process) : Type 0 where
   pub works : WorkOpen (r .status) (r .opened)
   pub left : Announcing (r .status) → r .begun < count rows p
 
+-- in the midst of work no row is announced
+no-store : (status : Status) → InWork status → Announcing status → ⊥
+no-store Down w x = w
+no-store Idle w x = w
+no-store N2 w x = w
+no-store N3 w x = w
+no-store (Busy stage seen readAt triedAt answer) w x = x
+
 open-any : (status : Status) (opened : Opened) (k : ℕ) → opened ≡ Open k → WorkOpen status opened
 open-any Down opened k e = tt
 open-any Idle opened k e = tt
@@ -198,7 +213,7 @@ module _ (rows : List Row) where
     works = (first rows p + r .begun, refl);
     left = λ x. absurd x;
   }
-  sane-turned p r next h (works k q (on e b n)) = record { in-file = λ j x. h .in-file j (sym e ∙ x); works = open-any (next .status) (next .opened) k (e ∙ q); left = λ x. absurd (n x) }
+  sane-turned p r next h (works k q (on e b n)) = record { in-file = λ j x. h .in-file j (sym e ∙ x); works = open-any (next .status) (next .opened) k (e ∙ q); left = λ x. absurd (no-store (next .status) n x) }
   sane-turned p r next h (works k q (ends e i b)) = record {
     in-file = λ j x. closed-open (sym e ∙ x);
     works = subst (λ st. WorkOpen st (next .opened)) (sym i) tt;

@@ -10,6 +10,7 @@ pub mod Laws
 pub mod Promises
 pub mod OneByte
 pub mod Limits
+pub mod Awake
 pub mod Cut
 pub mod Keeping
 pub mod Absent

@@ -3,7 +3,7 @@ use Prim.Native.Nat.{ℕ, suc}
 use mathlib.Core.Path.{_≡_}
 use mathlib.Core.List.{List, _++_, map}
 use lib.ListN.{take, drop}
-use mathlib.Core.Bool.{Bool, false}
+use mathlib.Core.Bool.{Bool, true, false}
 use Rattle.machine.specs.declared.Process.{Process}
 use Rattle.machine.specs.declared.Kept.{Kept}
 use Rattle.machine.specs.declared.Stage.the-variants.{A1, V1}
@@ -67,6 +67,14 @@ waked r N2 = r
 waked r N3 = r
 waked r (Busy stage word readAt triedAt answer) = r
 
+-- a process is awake unless it is down (R80)
+abbrev pub isAwake : Status → Bool
+isAwake Down = false
+isAwake Idle = true
+isAwake N2 = true
+isAwake N3 = true
+isAwake (Busy stage word readAt triedAt answer) = true
+
 -- the number of the open row; and that a row is open in the midst of work
 abbrev pub rowOpen : Opened → ℕ
 rowOpen Closed = 0
@@ -86,3 +94,11 @@ Announcing Idle = ⊥
 Announcing N2 = Unit
 Announcing N3 = Unit
 Announcing (Busy stage word readAt triedAt answer) = ⊥
+
+-- in the midst of work (R82)
+abbrev pub InWork : Status → Type 0
+InWork Down = ⊥
+InWork Idle = ⊥
+InWork N2 = ⊥
+InWork N3 = ⊥
+InWork (Busy stage word readAt triedAt answer) = Unit

@@ -2,38 +2,40 @@
 -- over the list itself, however long the list is: no file has more than sixteen processes, and a byte looks at the first P records alone.
 use Prim.Native.Nat.{ℕ, zero, suc, _+_, _≤_, _<_, min}
 use mathlib.Core.Path.{_≡_, refl, _∙_, ap}
-use mathlib.Core.Bool.{Bool, true, false, cond}
+use mathlib.Core.Bool.{Bool, true, false, not, cond}
 use mathlib.Core.List.{List, [], _∷_, _++_}
 use native.Mathlib.Omega.{arith}
-use lib.Dec.{ltb}
+use lib.Dec.{leb, ltb}
 use lib.ListN.{length, take, drop, getD, take-append-drop, List·getD-append}
 use lib.Seq.{length-take-le, take-at, take-take, take-append-le, getD-take}
-use borrow.Author.Tests.{ltb-true, ltb-false, lt-ltb, le-ltb}
+use borrow.Author.Tests.{ltb-true, ltb-false, leb-false, lt-ltb, le-ltb}
 use Rattle.runfile.specs.declared.Header.{Header}
 use Rattle.runfile.specs.declared.Room.{Room}
 use Rattle.runfile.specs.declared.Row.{Row}
 use Rattle.runfile.specs.declared.Checked.{Checked}
 use Rattle.runfile.specs.declared.Checked.the-variants as checked
-use Rattle.runfile.specs.declared.Refusal.the-variants.{WordsRoom}
+use Rattle.runfile.specs.declared.Refusal.the-variants.{Idle, WordsRoom}
+use Rattle.runfile.specs.Actions.{Action, step as steps, crash as crashes, wake as wakes, crashAll as crashesAll, none as idles, action, named}
+use Rattle.runfile.specs.Ups.{idleBy}
 use Rattle.runfile.specs.Operations.{tableOf}
-use Rattle.runfile.specs.Refusals.{fileRefusal}
+use Rattle.runfile.specs.Refusals.{badAction, badByte, fileRefusal}
 use Rattle.runfile.specs.Lawful.{lawful-file}
 use Rattle.machine.specs.declared.Process.{Process}
 use Rattle.rows.specs.Buffers.{rowsOf, flat, infront}
-use Rattle.machine.specs.Records.{nobody}
+use Rattle.machine.specs.Records.{nobody, isAwake}
 use Rattle.machine.specs.Machine.{step}
 use Rattle.run.specs.Run.{roomOf}
 use Rattle.panel.specs.declared.Stroke.{Stroke}
 use Rattle.panel.specs.declared.Table.{Table}
 use Rattle.panel.specs.declared.Verdict.{Verdict}
 use Rattle.panel.specs.declared.Verdict.the-variants.{Fine, Not}
-use Rattle.panel.specs.declared.Why.the-variants.{Run}
+use Rattle.panel.specs.declared.Why.the-variants.{Run, Record, Key}
 use Rattle.panel.specs.declared.Outcome.the-variants.{Went, Refused}
 use Rattle.panel.specs.Fits.{not-fine, list-room}
 use Rattle.panel.specs.Longer.{grows}
 use Rattle.panel.specs.Laid.{blank, laid}
 use Rattle.panel.specs.Possible.{anyImpossible}
-use Rattle.panel.specs.Press.{Lent, lent, sound, andThen, judged, judgedAs, verdictOf, stateOf, stepped, Pressed, pressedAs, pressed}
+use Rattle.panel.specs.Press.{Lent, lent, idleKey, sound, andThen, judged, judgedAs, verdictOf, stateOf, stepped, Pressed, pressedAs, pressed}
 use Rattle.panel.specs.Key.{keyed}
 
 -- with the first n of the table laid back into the list
@@ -104,6 +106,30 @@ module _ (f : List ℕ) (records : List Process) (words log answers : List ℕ) 
   held : n ≤ length records
   held = omega arith
 
+  -- a byte that is an action names one of the first P, or is F0 and looks at no record
+  idle-alike : (P : ℕ) → P ≤ n → badByte P (k .byte) ≡ false → idleKey (laid n records blank) (k .byte) ≡ idleKey records (k .byte)
+  unfolding badByte
+  idle-alike P few e = go (action (k .byte)) e
+    where
+      same : leb P (named (k .byte)) ≡ false → getD (laid n records blank) (named (k .byte)) nobody ≡ getD records (named (k .byte)) nobody
+      same e = getD-laid records blank n held (named (k .byte)) nobody (let i = leb-false P (named (k .byte)) e in omega arith)
+
+      go : (a : Action) → badAction P (named (k .byte)) a ≡ false → idleBy a (isAwake (getD (laid n records blank) (named (k .byte)) nobody .status)) ≡ idleBy a (isAwake (getD records (named (k .byte)) nobody .status))
+      go steps e = refl
+      go crashes e = ap (λ (r : Process). not (isAwake (r .status))) (same e)
+      go wakes e = ap (λ (r : Process). isAwake (r .status)) (same e)
+      go crashesAll e = refl
+      go idles e = refl
+
+  sound-alike : (h : Header) → h .processes ≤ n → sound h f (laid n records blank) k ≡ sound h f records k
+  sound-alike h few =
+      rw (any-laid records blank n held (tableOf h f) 0 (h .processes) (omega arith))
+      (ap (λ v. cond (ltb 1023 (k .position)) (Not Record 0) (cond (anyImpossible (tableOf h f) records 0 (h .processes)) (Not Record 0) v)) (go (badByte (h .processes) (k .byte)) refl))
+    where
+      go : (c : Bool) → badByte (h .processes) (k .byte) ≡ c → _≡_ {A = Verdict} (cond c (Not Key 0) (cond (idleKey (laid n records blank) (k .byte)) (Not (Run Idle) 0) (Fine h))) (cond c (Not Key 0) (cond (idleKey records (k .byte)) (Not (Run Idle) 0) (Fine h)))
+      go true e = refl
+      go false e = rw (idle-alike (h .processes) few e) refl
+
   -- the verdict over the table is the verdict over the list
   verdict-alike : (h : Header) → h .processes ≤ 16 → judged h f table room k ≡ judged h f whole room k
   unfolding judged
@@ -114,7 +140,7 @@ module _ (f : List ℕ) (records : List Process) (words log answers : List ℕ) 
           ≡ andThen (cond a (Not (Run WordsRoom) 0) (cond c (Not (Run WordsRoom) 0) rest)) (sound h f records k)
       go true c q rest = refl
       go false true q rest = refl
-      go false false q rest = rw (any-laid records blank n held (tableOf h f) 0 (h .processes) (let l = ltb-false n (h .processes) q in omega arith)) refl
+      go false false q rest = ap (andThen rest) (sound-alike h (ltb-false n (h .processes) q))
 
   -- and so are the state that is lent and the state after the byte, of P records
   state-alike : (h : Header) → h .processes ≤ n → stepped h f in-table k ≡ stepped h f lends k

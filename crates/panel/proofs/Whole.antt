@@ -7,7 +7,7 @@ use lib.ListN.{length, getD, take, drop}
 use Rattle.runfile.specs.declared.Header.{Header}
 use Rattle.runfile.specs.Layout.{rowsStart, strideOf}
 use Rattle.runfile.specs.Operations.{tableOf}
-use Rattle.runfile.specs.Lawful.{LawfulByte, lawful-byte, ample}
+use Rattle.runfile.specs.Lawful.{LawfulByte, lawful-byte}
 use Rattle.machine.specs.declared.Process.{Process}
 use Rattle.engine.specs.declared.Standing.{Standing}
 use Rattle.engine.specs.declared.Part.{Part}
@@ -46,14 +46,14 @@ module _ (h : Header) (f : List ℕ) (l : Lent) (k : Stroke) (ft : Fit h f (l .p
     -- it may be run
     pub able-in : Runnable (partOf stride n P) (take (length f - rows-at) (drop rows-at f)) (k .byte ∷ []) (l .words) (l .log) (l .answers)
     able-in =
-        let lined = lined-part h f ample (ft .lawful) in
+        let lined = lined-part h f (ft .lawful) in
         let early = ft .early in
         let log-room = ft .log-room in
         let answers-room = ft .answers-room in
         rw (part-all f rows-at, z, e, q, here)
         (record {
           lined = lined;
-          on-words = λ j i. let a = words-part h f ample (ft .lawful) j i in let b = ft .words-room in omega arith;
+          on-words = λ j i. let a = words-part h f (ft .lawful) j i in let b = ft .words-room in omega arith;
           present = ft .lawful .head .processes;
           lawful = lawful-key;
           early = omega arith;

@@ -30,7 +30,7 @@ use Rattle.panel.specs.declared.Verdict.{Verdict}
 use Rattle.panel.specs.declared.Verdict.the-variants.{Fine, Not}
 use Rattle.panel.specs.declared.Why.{Why}
 use Rattle.panel.specs.Possible.{tooMany, notLast, openWhile, noneAt, noneLeft, misplaced, impossible, anyImpossible}
-use Rattle.panel.specs.Press.{andThen, roomy, sound, judged, judgedAs, verdictOf, Fit}
+use Rattle.panel.specs.Press.{andThen, roomy, idleKey, sound, judged, judgedAs, verdictOf, Fit}
 
 pub not-fine : {why : Why} {at : ℕ} {h : Header} → Not why at ≡ Fine h → ⊥
 not-fine e = let z : _≡_ {A = ℕ} 0 1 = cc in omega arith
@@ -47,7 +47,7 @@ both-fine : (v next : Verdict) (h : Header) → andThen v next ≡ Fine h → ((
 both-fine (Not why at) next h e = absurd (not-fine e)
 both-fine (Fine g) next h e = ((g, refl), e)
 
--- each test of 13 to 22, by which a key over a file with this header is not refused
+-- each test of 13 to 15, 21, 22 and 16, by which a key over a file with this header is not refused
 record Unrefused (h : Header) (f : List ℕ) (t : Table) (room : Room) (k : Stroke) : Type 0 where
   words : ltb (room .words) (h .words) ≡ false
   records : ltb (t .held) (h .processes) ≡ false
@@ -56,6 +56,7 @@ record Unrefused (h : Header) (f : List ℕ) (t : Table) (room : Room) (k : Stro
   position : ltb 1023 (k .position) ≡ false
   possible : anyImpossible (tableOf h f) (t .processes) 0 (h .processes) ≡ false
   byte : badByte (h .processes) (k .byte) ≡ false
+  not-idle : idleKey (t .processes) (k .byte) ≡ false
 
 unrefused : (g : Header) (f : List ℕ) (t : Table) (room : Room) (k : Stroke) (h : Header) → judged g f t room k ≡ Fine h → (g ≡ h) × Unrefused g f t room k
 unfolding judged
@@ -68,7 +69,8 @@ unrefused g f t room k h e =
     let s1 = passed (ltb 1023 (k .position)) _ _ _ _ (b .1) in
     let s2 = passed (anyImpossible (tableOf g f) (t .processes) 0 (g .processes)) _ _ _ _ (s1 .1) in
     let s3 = passed (badByte (g .processes) (k .byte)) _ _ _ _ (s2 .1) in
-    (same-header (s3 .1), record { words = r1 .0; records = r2 .0; log = r3 .0; answers = r4 .0; position = s1 .0; possible = s2 .0; byte = s3 .0 })
+    let s4 = passed (idleKey (t .processes) (k .byte)) _ _ _ _ (s3 .1) in
+    (same-header (s4 .1), record { words = r1 .0; records = r2 .0; log = r3 .0; answers = r4 .0; position = s1 .0; possible = s2 .0; byte = s3 .0; not-idle = s4 .0 })
 
 -- the list of records is long enough
 pub list-room : (g : Header) (f : List ℕ) (t : Table) (room : Room) (k : Stroke) (h : Header) → judged g f t room k ≡ Fine h → h .processes ≤ t .held
@@ -97,6 +99,7 @@ module _ (f : List ℕ) (t : Table) (room : Room) (k : Stroke) (h : Header) (e :
         early = ltb-false 1023 (k .position) (u .position);
         possible = u .possible;
         action = u .byte;
+        not-idle = u .not-idle;
       }
 
 -- each of the records can be

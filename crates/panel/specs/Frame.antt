@@ -1,18 +1,20 @@
--- What a key leaves alone (R204, R206, R222), for every file, every list of records and all buffers: by what a byte leaves alone in the machine.
+-- What a key leaves alone (R204, R206, R222), for every file, every list of records and all buffers: by what a byte leaves alone in the machine. And
+-- that a crash or a wake that is carried out leaves the record named not as it was (R226).
 use Prim.Native.Nat.{ℕ, _+_, _*_, _-_, _≤_, _<_}
 use mathlib.Core.Path.{_≡_, refl, sym, _∙_, ap, ap₂, subst}
 use mathlib.Core.Bool.{Bool, true, false}
 use mathlib.Core.List.{List, _++_}
 use mathlib.Core.Logic.{_≢_}
 use native.Mathlib.Omega.{arith}
-use lib.Dec.{ltb}
+use lib.Dec.{leb, ltb}
 use lib.ListN.{length, getD, take, drop, take-append-drop, length-append, length-drop, List·getD-append}
 use lib.Seq.{drop-at, getD-take, getD-drop, getD-set-other, length-take-le}
-use borrow.Author.Tests.{ltb-true, ltb-false, leb-false}
+use borrow.Author.Tests.{ltb-true, ltb-false, leb-false, eq-eqb, not-false}
 use Rattle.runfile.specs.declared.Header.{Header}
 use Rattle.runfile.specs.declared.Row.{Row}
 use Rattle.runfile.specs.declared.Checked.the-variants as checked
 use Rattle.runfile.specs.Actions.{Action, step as steps, crash as crashes, wake as wakes, crashAll as crashesAll, none as idles, action, named}
+use Rattle.runfile.specs.Ups.{upAs, idleBy}
 use Rattle.runfile.specs.Operations.{tableOf, rowNumbered, first, count}
 use Rattle.runfile.specs.Refusals.{badAction, badByte, fileRefusal}
 use Rattle.rows.specs.declared.Entry.{Entry}
@@ -21,11 +23,12 @@ use Rattle.rows.specs.BufferLaws.{beyond, flat-append, flat-rowsOf, length-flat
 use Rattle.machine.specs.declared.Process.{Process}
 use Rattle.machine.specs.declared.Status.{Status}
 use Rattle.machine.specs.Turn.{Turn, Still, Quiet, Swaps, Logs, Loses, Replies}
-use Rattle.machine.specs.Records.{fresh, nobody, rowOpen}
+use Rattle.machine.specs.Records.{fresh, nobody, isAwake, rowOpen}
 use Rattle.machine.specs.Laws.{getD-either}
 use Rattle.machine.specs.Machine.{State, effectOf, wordsAfter, turn, turnIn, apply, applied, procAt, act, actIn, step, stepIn}
 use Rattle.machine.specs.Steps.{stepTurn}
 use Rattle.machine.specs.OneByte as one
+use Rattle.machine.specs.Awake.{awake-down, awake-byte, Strikes}
 use Rattle.run.specs.Run.{roomOf}
 use Rattle.panel.specs.declared.Stroke.{Stroke}
 use Rattle.panel.specs.declared.Table.{Table}
@@ -71,6 +74,8 @@ pub record Frame (h : Header) (f : List ℕ) (l : Lent) (k : Stroke) (p : Presse
   pub all-answers : length (p .answers) ≡ length (l .answers)
   -- a crash or a wake: only records change (R134)
   pub only-steps : (action (k .byte) ≡ steps → ⊥) → (p .outcome ≡ Went (k .log) (k .answers)) × (p .words ≡ l .words) × (p .log ≡ l .log) × (p .answers ≡ l .answers)
+  -- and it changes the record of the process named: one that was awake is down, one that was down is awake (R226)
+  pub struck : Strikes (k .byte) (getD (l .processes) (named (k .byte)) nobody) (getD (p .processes) (named (k .byte)) nobody)
 
 module _ (h : Header) (f : List ℕ) (records : List Process) (words log answers : List ℕ) (k : Stroke) where
   abbrev l : Lent
@@ -109,10 +114,10 @@ module _ (h : Header) (f : List ℕ) (records : List Process) (words log answers
             let i : q ≡ P + (q - P) = (let g = ltb-false q P e in omega arith) in
             rw i (sym (getD-drop P (carried h f l k .processes) (q - P) nobody) ∙ ap (λ ps. getD ps (q - P) nobody) past ∙ getD-drop P records (q - P) nobody)
 
-    -- a step is one of a process below P
-    steps-below : action (k .byte) ≡ steps → named (k .byte) < P
+    -- a step, a crash and a wake are of a process below P
+    below : (a : Action) → action (k .byte) ≡ a → badAction P (named (k .byte)) a ≡ leb P (named (k .byte)) → named (k .byte) < P
     unfolding badByte
-    steps-below e = leb-false P (named (k .byte)) (subst (λ a. badAction P (named (k .byte)) a ≡ false) e (ft .action))
+    below a e of-one = leb-false P (named (k .byte)) (sym of-one ∙ subst (λ a. badAction P (named (k .byte)) a ≡ false) e (ft .action))
 
     mine : named (k .byte) < P → procAt (named (k .byte)) s ≡ getD records (named (k .byte)) nobody
     unfolding stateOf procAt
@@ -125,11 +130,36 @@ module _ (h : Header) (f : List ℕ) (records : List Process) (words log answers
         go : (a : Action) → action (k .byte) ≡ a → getD (act (tableOf h f) (k .position) a (named (k .byte)) s .words) w 0 ≡ getD words w 0
         go steps e =
             turn-word (tableOf h f) (named (k .byte)) (k .position) words (s .log) (procAt (named (k .byte)) s) (procAt (named (k .byte)) s .status) w
-            (subst (λ r. w ≢ rowNumbered (tableOf h f) (rowOpen (r .opened)) .word) (sym (mine (steps-below e))) n)
+            (subst (λ r. w ≢ rowNumbered (tableOf h f) (rowOpen (r .opened)) .word) (sym (mine (below steps e refl))) n)
         go crashes e = refl
         go wakes e = refl
         go crashesAll e = refl
         go idles e = refl
+
+    -- the record of the process named, and whether it is awake after the byte
+    left : named (k .byte) < P → getD (carried h f l k .processes) (named (k .byte)) nobody ≡ procAt (named (k .byte)) (stepped h f l k)
+    unfolding procAt
+    left i =
+        let j : named (k .byte) < length (stepped h f l k .processes) = rw all-P i in
+        List·getD-append (stepped h f l k .processes) (drop P records) nobody (named (k .byte)) j ∙ getD-either (stepped h f l k .processes) (named (k .byte)) nobody fresh j
+
+    awake-then : named (k .byte) < P → isAwake (getD (carried h f l k .processes) (named (k .byte)) nobody .status) ≡ upAs (action (k .byte)) true (isAwake (getD records (named (k .byte)) nobody .status))
+    unfolding stepped stateOf
+    awake-then i =
+        ap up (left i)
+        ∙ awake-byte (tableOf h f) (named (k .byte)) (k .position) (k .byte) s (rw (length-take-le P records room) i)
+        ∙ ap₂ (λ mine r. upAs (action (k .byte)) mine (up r)) (eq-eqb (named (k .byte)) (named (k .byte)) refl) (mine i)
+      where
+        up : Process → Bool
+        up r = isAwake (r .status)
+
+    strikes : Strikes (k .byte) (getD records (named (k .byte)) nobody) (getD (carried h f l k .processes) (named (k .byte)) nobody)
+    strikes =
+        let was = isAwake (getD records (named (k .byte)) nobody .status) in
+        record {
+          crash = λ e. (not-false was (subst (λ a. idleBy a was ≡ false) e (ft .not-idle)), awake-down _ .0 (awake-then (below crashes e refl) ∙ ap (λ a. upAs a true was) e));
+          wake = λ e. (awake-down _ .0 (subst (λ a. idleBy a was ≡ false) e (ft .not-idle)), awake-then (below wakes e refl) ∙ ap (λ a. upAs a true was) e);
+        }
 
     counts : (length (stepped h f l k .log) ≤ k .log + 1) × (length (stepped h f l k .answers) ≤ k .answers + 1)
     unfolding stepped stateOf
@@ -193,6 +223,7 @@ module _ (h : Header) (f : List ℕ) (records : List Process) (words log answers
       all-log = length-infront (flat (stepped h f l k .log)) log (let a = counts .0 in let b = length-flat (stepped h f l k .log) in let c = ft .log-room in omega arith);
       all-answers = length-infront (flat (stepped h f l k .answers)) answers (let a = counts .1 in let b = length-flat (stepped h f l k .answers) in let c = ft .answers-room in omega arith);
       only-steps = untouched;
+      struck = strikes;
     }
 
 -- refused, and all as it was (R222); or carried out, on a file that is accepted

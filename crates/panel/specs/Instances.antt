@@ -1,11 +1,12 @@
 -- The definitions of a key at records and keys, by computation: of each condition of 21 a record that meets it and one beside it that does not
--- (R231b to R231i); the order of the refusals (R220); and case f (R266), key after key.
+-- (R231b to R231i); the order of the refusals (R220); which keys are idle (R226); and case f (R266), key after key.
 use Prim.Native.Nat.{ℕ, _+_, _*_, _^_}
 use mathlib.Core.Path.{_≡_, refl}
 use mathlib.Core.Bool.{true, false}
 use mathlib.Core.List.{List, [], _∷_, _++_, map}
 use lib.ListN.{replicate}
 use Rattle.runfile.specs.declared.Row.{Row}
+use Rattle.runfile.specs.declared.Refusal.the-variants as refused
 use Rattle.runfile.specs.Format.{headSize, wordSize, rowSize, newPlace}
 use Rattle.runfile.specs.Layout.{u16At, u32At, marked, headerIn, numberAt, rowAt}
 use Rattle.runfile.specs.Operations.{rowsFrom, tableOf, rowNumbered, first, count, names}
@@ -28,6 +29,7 @@ use Rattle.machine.specs.Records.{fresh, unkept}
 use Rattle.machine.specs.Steps.{spoken, triedIn, storingIn, decideIn, stepTurnIn}
 use Rattle.machine.specs.Machine.{turnIn, apply, applied, procAt, actIn, stepIn}
 use Rattle.panel.specs.declared.Stroke.{Stroke}
+use Rattle.panel.specs.declared.Why.the-variants.{Run}
 use Rattle.panel.specs.declared.Outcome.{Outcome}
 use Rattle.panel.specs.declared.Outcome.the-variants.{Went, Refused}
 use Rattle.panel.specs.Possible.{misplaced, misdone, impossible, anyImpossible}
@@ -143,6 +145,10 @@ spoilt = fresh ∷ with 1 Closed None Idle ∷ []
 abbrev idle : List Process
 idle = fresh ∷ fresh ∷ []
 
+-- both are down
+abbrev down : List Process
+down = with 0 Closed None Down ∷ with 0 Closed None Down ∷ []
+
 -- the number of the refusal, 0 for none
 abbrev refusal : Outcome → ℕ
 refusal (Went log answers) = 0
@@ -153,7 +159,8 @@ abbrev keyOf : (byte position log answers : ℕ) → Stroke
 keyOf byte position log answers = record { byte = byte; position = position; log = log; answers = answers }
 
 -- everything is wrong, and one thing after the other is put right: a damaged file; no word; one record; room for no log row; a log count past the
--- buffer; room for no answer; position 1,024; a record that cannot be; bytes that are no action; and at last nothing
+-- buffer; room for no answer; position 1,024; a record that cannot be; bytes that are no action, of which the last two are a crash of one that is down
+-- by its record and a wake of one that is awake, so that they would be idle; a wake that is idle; and at last nothing
 pub in-order :
     refusal (keyed damaged (fresh ∷ []) [] [] [] (keyOf 48 1024 0 0) .outcome)
     ∷ refusal (keyed file (fresh ∷ []) [] [] [] (keyOf 48 1024 0 0) .outcome)
@@ -166,11 +173,27 @@ pub in-order :
     ∷ refusal (keyed file idle (7 ∷ []) (replicate 15 0) (replicate 5 0) (keyOf 48 1023 2 0) .outcome)
     ∷ refusal (keyed file idle (7 ∷ []) (replicate 15 0) (replicate 5 0) (keyOf 2 1023 2 0) .outcome)
     ∷ refusal (keyed file idle (7 ∷ []) (replicate 15 0) (replicate 5 0) (keyOf 241 1023 2 0) .outcome)
+    ∷ refusal (keyed file (idle ++ down) (7 ∷ []) (replicate 15 0) (replicate 5 0) (keyOf 18 1023 2 0) .outcome)
+    ∷ refusal (keyed file (idle ++ idle) (7 ∷ []) (replicate 15 0) (replicate 5 0) (keyOf 34 1023 2 0) .outcome)
+    ∷ refusal (keyed file idle (7 ∷ []) (replicate 15 0) (replicate 5 0) (keyOf 33 1023 2 0) .outcome)
     ∷ refusal (keyed file idle (7 ∷ []) (replicate 15 0) (replicate 5 0) (keyOf 0 1023 2 0) .outcome)
     ∷ []
-    ≡ 2 ∷ 13 ∷ 13 ∷ 14 ∷ 14 ∷ 15 ∷ 21 ∷ 21 ∷ 22 ∷ 22 ∷ 22 ∷ 0 ∷ []
+    ≡ 2 ∷ 13 ∷ 13 ∷ 14 ∷ 14 ∷ 15 ∷ 21 ∷ 21 ∷ 22 ∷ 22 ∷ 22 ∷ 22 ∷ 22 ∷ 16 ∷ 0 ∷ []
 unfolding keyed pressed verdictOf judged fileRefusal headerIn u16At u32At marked headSize wordSize rowSize newPlace numberAt rowAt badField sameFields badByte firstBadField firstRow firstLaterRow firstByte tableOf rowsFrom anyImpossible impossible misplaced misdone rowNumbered first count
 in-order = refl
+
+-- Which keys are idle (R226). Both are awake: a crash of one goes, a wake does not. Both are down: a crash does not go, a wake does, and so do a step
+-- and F0. One is down and one is awake: the record of the process named is asked, and no other. The place of 16 is 0.
+abbrev pressedBy : (byte : ℕ) → List Process → ℕ
+pressedBy byte records = refusal (keyed file records (7 ∷ []) (replicate 5 0) (replicate 5 0) (keyOf byte 0 0 0) .outcome)
+
+pub idle-keys :
+    (pressedBy 16 idle ∷ pressedBy 32 idle ∷ pressedBy 0 idle ∷ pressedBy 240 idle ∷ [] ≡ 0 ∷ 16 ∷ 0 ∷ 0 ∷ [])
+    × (pressedBy 16 down ∷ pressedBy 32 down ∷ pressedBy 0 down ∷ pressedBy 240 down ∷ [] ≡ 16 ∷ 0 ∷ 0 ∷ 0 ∷ [])
+    × (map (λ byte. pressedBy byte (with 0 Closed None Down ∷ fresh ∷ [])) (16 ∷ 17 ∷ 32 ∷ 33 ∷ []) ≡ 16 ∷ 0 ∷ 0 ∷ 16 ∷ [])
+    × (keyed file idle (7 ∷ []) (replicate 5 0) (replicate 5 0) (keyOf 32 0 0 0) .outcome ≡ Refused (Run refused.Idle) 0)
+unfolding keyed pressed verdictOf judged fileRefusal headerIn u16At u32At marked headSize wordSize rowSize newPlace numberAt rowAt badField sameFields badByte firstBadField firstRow firstLaterRow firstByte tableOf rowsFrom anyImpossible impossible misplaced misdone rowNumbered first count
+idle-keys = (refl, refl, refl, refl)
 
 -- case f (R266), key after key: two rows in the log, the swap of process 1 and behind it the one that lost to it, and one answer
 abbrev keys : List ℕ

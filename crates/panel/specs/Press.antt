@@ -2,21 +2,23 @@
 -- out as a byte of a run (R202).
 use Prim.Native.Nat.{ℕ, _+_, _*_, _≤_}
 use mathlib.Core.Path.{_≡_}
-use mathlib.Core.Bool.{false, cond}
+use mathlib.Core.Bool.{Bool, false, cond}
 use mathlib.Core.List.{List, _++_}
 use lib.Dec.{ltb}
-use lib.ListN.{length, take, drop}
+use lib.ListN.{getD, length, take, drop}
 use Rattle.runfile.specs.declared.Header.{Header}
 use Rattle.runfile.specs.declared.Room.{Room}
 use Rattle.runfile.specs.declared.Checked.{Checked}
 use Rattle.runfile.specs.declared.Checked.the-variants as checked
-use Rattle.runfile.specs.declared.Refusal.the-variants.{WordsRoom, LogRoom, AnswersRoom}
-use Rattle.runfile.specs.Actions.{action}
+use Rattle.runfile.specs.declared.Refusal.the-variants.{Idle, WordsRoom, LogRoom, AnswersRoom}
+use Rattle.runfile.specs.Actions.{action, named}
+use Rattle.runfile.specs.Ups.{idleBy}
 use Rattle.runfile.specs.Operations.{tableOf}
-use Rattle.runfile.specs.Lawful.{Lawful, ample}
+use Rattle.runfile.specs.Lawful.{LawfulFile}
 use Rattle.runfile.specs.Refusals.{numberOf, badByte, fileRefusal}
 use Rattle.rows.specs.Buffers.{rowsOf, flat, infront}
 use Rattle.machine.specs.declared.Process.{Process}
+use Rattle.machine.specs.Records.{nobody, isAwake}
 use Rattle.machine.specs.Machine.{State, step}
 use Rattle.run.specs.Run.{roomOf}
 use Rattle.panel.specs.declared.Stroke.{Stroke}
@@ -53,12 +55,17 @@ roomy h held room k =
     (cond (ltb (room .log) (k .log * 5 + 5)) (Not (Run LogRoom) 0)
     (cond (ltb (room .answers) (k .answers * 5 + 5)) (Not (Run AnswersRoom) 0) (Fine h))))
 
--- then 21 (R231) and 22 (R232)
+-- the byte is a crash of a process that is down by its lent record, or a wake of one that is awake (R226)
+abbrev pub idleKey : List Process → (byte : ℕ) → Bool
+idleKey processes byte = idleBy (action byte) (isAwake (getD processes (named byte) nobody .status))
+
+-- then 21 (R231), 22 (R232) and 16 (R226)
 abbrev pub sound : Header → List ℕ → List Process → Stroke → Verdict
 sound h f processes k =
     cond (ltb 1023 (k .position)) (Not Record 0)
     (cond (anyImpossible (tableOf h f) processes 0 (h .processes)) (Not Record 0)
-    (cond (badByte (h .processes) (k .byte)) (Not Key 0) (Fine h)))
+    (cond (badByte (h .processes) (k .byte)) (Not Key 0)
+    (cond (idleKey processes (k .byte)) (Not (Run Idle) 0) (Fine h))))
 
 abbrev pub andThen : Verdict → Verdict → Verdict
 andThen (Not why place) next = Not why place
@@ -120,10 +127,11 @@ pub record Leaves (p : Pressed) (r : Outcome) (processes : List Process) (words 
 
 -- what holds of a key that is not refused
 pub record Fit (h : Header) (f : List ℕ) (processes : List Process) (room : Room) (k : Stroke) : Type 0 where
-  pub lawful : Lawful h f ample
+  pub lawful : LawfulFile h f
   pub words-room : h .words ≤ room .words
   pub log-room : k .log * 5 + 5 ≤ room .log
   pub answers-room : k .answers * 5 + 5 ≤ room .answers
   pub early : k .position ≤ 1023
   pub possible : anyImpossible (tableOf h f) processes 0 (h .processes) ≡ false
   pub action : badByte (h .processes) (k .byte) ≡ false
+  pub not-idle : idleKey processes (k .byte) ≡ false

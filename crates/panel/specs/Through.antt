@@ -5,10 +5,11 @@ use Prim.Native.Nat.{ℕ, zero, suc, _+_, _*_, _≤_, _<_}
 use mathlib.Core.Path.{_≡_, refl, sym, _∙_, ap, subst}
 use mathlib.Core.Bool.{Bool, true, false}
 use mathlib.Core.List.{List, [], _∷_, _++_}
+use native.Mathlib.Nat.{add-zero, zero-add, suc-add, add-suc}
 use native.Mathlib.Omega.{arith}
 use lib.Dec.{ltb}
 use lib.ListN.{length, getD, take, drop, replicate, take-append-drop, length-append, List·getD-append, length-replicate}
-use lib.Seq.{take-at, drop-at, take-all, getD-take, length-take-le}
+use lib.Seq.{take-suc, take-at, drop-at, take-all, length-take-le}
 use borrow.Author.Tests.{ltb-true, ltb-false, le-ltb}
 use Rattle.runfile.specs.declared.Header.{Header}
 use Rattle.runfile.specs.declared.Row.{Row}
@@ -16,17 +17,22 @@ use Rattle.runfile.specs.declared.Checked.the-variants.{Accepted}
 use Rattle.runfile.specs.Layout.{scheduleIn, rowsStart, strideOf}
 use Rattle.runfile.specs.Operations.{wordsFrom, wordsOf, tableOf, rowsFrom, rowNumbered}
 use Rattle.runfile.specs.OperationLaws.{length-wordsFrom, rowNumbered-rowsFrom, rowNumbered-past}
+use Rattle.runfile.specs.Actions.{action, named}
+use Rattle.runfile.specs.Ups.{idleBy, idles}
+use Rattle.runfile.specs.Table.{byteOf}
 use Rattle.runfile.specs.Refusals.{refusalOf}
-use Rattle.runfile.specs.Lawful.{Lawful, LawfulByte, lawful, lawful-not-bad, room-file}
+use Rattle.runfile.specs.Lawful.{Lawful, LawfulByte, lawful, lawful-not-bad, not-idle-test, room-file}
 use Rattle.rows.specs.Buffers.{flat, infront}
 use Rattle.rows.specs.BufferLaws.{rows-back, again, length-infront, length-flat}
 use Rattle.machine.specs.declared.Process.{Process}
-use Rattle.machine.specs.Records.{fresh, nobody}
-use Rattle.machine.specs.Laws.{getD-either}
+use Rattle.machine.specs.Records.{fresh, nobody, isAwake}
+use Rattle.machine.specs.Laws.{after-next, getD-either}
 use Rattle.machine.specs.Machine.{State, procAt, step, after, afterIn, begin}
 use Rattle.run.specs.declared.Outcome.{Outcome as RunOutcome}
 use Rattle.run.specs.declared.Outcome.the-variants.{Ran}
+use Rattle.machine.specs.Awake.{awake-up}
 use Rattle.run.specs.Run.{endOf, roomOf, EndsAs, Ends}
+use Rattle.run.specs.Struck.{stateAt, named-there}
 use Rattle.panel.specs.declared.Stroke.{Stroke}
 use Rattle.panel.specs.declared.Table.{Table}
 use Rattle.panel.specs.declared.Outcome.{Outcome}
@@ -35,7 +41,7 @@ use Rattle.panel.specs.declared.Verdict.the-variants.{Fine}
 use Rattle.panel.specs.Possible.{impossible, anyImpossible}
 use Rattle.panel.specs.Lives.{Lives, lives-step, lives-begin, lives-possible}
 use Rattle.panel.specs.Longer.{longer, step-longer, grows}
-use Rattle.panel.specs.Press.{Lent, lent, judged, verdictOf, stateOf, stepped, Pressed, carried, pressedAs, pressed, Leaves}
+use Rattle.panel.specs.Press.{Lent, lent, idleKey, judged, verdictOf, stateOf, stepped, Pressed, carried, pressedAs, pressed, Leaves}
 use Rattle.panel.specs.Key.{keyed}
 
 -- the key after one that came to this: the counts are handed on; after a refusal none is pressed
@@ -47,6 +53,20 @@ keyAfter f t byte p (Refused why place) = p
 unfoldable pub stepping : List ℕ → ℕ → List ℕ → Pressed → Pressed
 stepping f t [] p = p
 stepping f t (byte ∷ bytes) p = stepping f (suc t) bytes (keyAfter f t byte p (p .outcome))
+
+-- one key more
+stepping-snoc : (f : List ℕ) (bytes : List ℕ) (byte t : ℕ) (p : Pressed) → stepping f t (bytes ++ (byte ∷ [])) p ≡ (let q = stepping f t bytes p in keyAfter f (t + length bytes) byte q (q .outcome))
+unfolding stepping
+stepping-snoc f [] byte t p = rw (add-zero t)
+stepping-snoc f (b ∷ bytes) byte t p = rw (add-suc t (length bytes), ← (suc-add t (length bytes))) (stepping-snoc f bytes byte (suc t) (keyAfter f t b p (p .outcome)))
+
+stepping-next : (f schedule : List ℕ) (i : ℕ) (p : Pressed) → i < length schedule
+    → stepping f 0 (take (suc i) schedule) p ≡ (let q = stepping f 0 (take i schedule) p in keyAfter f i (getD schedule i 0) q (q .outcome))
+stepping-next f schedule i p h =
+    let q = stepping f 0 (take i schedule) p in
+    ap (λ bytes. stepping f 0 bytes p) (take-suc schedule i 0 h)
+    ∙ stepping-snoc f (take i schedule) (getD schedule i 0) 0 p
+    ∙ ap (λ t. keyAfter f t (getD schedule i 0) q (q .outcome)) (zero-add (length (take i schedule)) ∙ length-take-le i schedule (omega arith))
 
 -- before the first key: no rows (R208)
 abbrev pub ready : List Process → (words log answers : List ℕ) → Pressed
@@ -109,10 +129,10 @@ module _ (f words log answers : List ℕ) (h : Header) (fine : refusalOf f (room
   inside k = go (ltb k (h .rows)) refl
     where
       go : (c : Bool) → ltb k (h .rows) ≡ c → rowNumbered (rowsFrom (strideOf h) f (rowsStart h) (h .rows)) k .word < h .words
-      go true e = rw (rowNumbered-rowsFrom (strideOf h) f (rowsStart h) (h .rows) k (ltb-true k (h .rows) e)) (l .rows k (ltb-true k (h .rows) e) .word)
-      go false e = rw (rowNumbered-past (strideOf h) f (rowsStart h) (h .rows) k (ltb-false k (h .rows) e)) (l .head .some-word)
+      go true e = rw (rowNumbered-rowsFrom (strideOf h) f (rowsStart h) (h .rows) k (ltb-true k (h .rows) e)) (l .file .rows k (ltb-true k (h .rows) e) .word)
+      go false e = rw (rowNumbered-past (strideOf h) f (rowsStart h) (h .rows) k (ltb-false k (h .rows) e)) (l .file .head .some-word)
 
-  module _ (t byte : ℕ) (s : State) (g : Good t s) (in-schedule : t < h .steps) (fit : LawfulByte P byte) where
+  module _ (t byte : ℕ) (s : State) (g : Good t s) (in-schedule : t < h .steps) (fit : LawfulByte P byte) (present : named byte < P) (calm : idleBy (action byte) (isAwake (procAt (named byte) s .status)) ≡ false) where
     abbrev k : Stroke
     k = record { byte = byte; position = t; log = length (s .log); answers = length (s .answers) }
 
@@ -134,12 +154,18 @@ module _ (f words log answers : List ℕ) (h : Header) (fine : refusalOf f (room
     all-fit : P ≤ length (s .processes ++ drop P records)
     all-fit = let a = length-append (s .processes) (drop P records) in let b = g .all in omega arith
 
-    there : (p : ℕ) → p < length (s .processes) → impossible rows p (getD (s .processes ++ drop P records) p nobody) ≡ false
+    -- the record of a process, as it is lent
+    there : (p : ℕ) → p < P → getD (s .processes ++ drop P records) p nobody ≡ procAt p s
     unfolding procAt
-    there p i = rw (List·getD-append (s .processes) (drop P records) nobody p i, getD-either (s .processes) p nobody fresh i) (lives-possible rows p (procAt p s) (g .each p))
+    there p i =
+        let j : p < length (s .processes) = (let a = g .all in omega arith) in
+        List·getD-append (s .processes) (drop P records) nobody p j ∙ getD-either (s .processes) p nobody fresh j
 
     can-be : anyImpossible rows (s .processes ++ drop P records) 0 P ≡ false
-    can-be = none-impossible rows (s .processes ++ drop P records) 0 P (λ p i. there p (let a = g .all in omega arith))
+    can-be = none-impossible rows (s .processes ++ drop P records) 0 P (λ p i. rw (there p (omega arith)) (lives-possible rows p (procAt p s) (g .each p)))
+
+    not-idle : idleKey (s .processes ++ drop P records) byte ≡ false
+    not-idle = rw (there (named byte) present) calm
 
     not-refused : verdictOf f whole (roomOf (held s .words) (held s .log) (held s .answers)) k ≡ Fine h
     unfolding verdictOf judged
@@ -153,9 +179,10 @@ module _ (f words log answers : List ℕ) (h : Header) (fine : refusalOf f (room
           le-ltb (length (s .processes ++ drop P records)) P all-fit,
           le-ltb (length log) (length (s .log) * 5 + 5) (let b = g .log-few in let c = l .log-room in omega arith),
           le-ltb (length answers) (length (s .answers) * 5 + 5) (let b = g .answers-few in let c = l .answers-room in omega arith),
-          le-ltb 1023 t (let a = l .head .steps in omega arith),
+          le-ltb 1023 t (let a = l .file .head .steps in omega arith),
           can-be,
           lawful-not-bad P byte fit,
+          not-idle,
         ) refl
 
     -- the state that is lent
@@ -191,14 +218,6 @@ module _ (f words log answers : List ℕ) (h : Header) (fine : refusalOf f (room
     unfolding keyed pressed
     one-key = ap (λ v. pressedAs v f lends k) not-refused ∙ carried-is
 
-  -- key after key
-  go-through : (bytes : List ℕ) (t : ℕ) (s : State) → Good t s → t + length bytes ≤ h .steps → ((i : ℕ) → i < length bytes → LawfulByte P (getD bytes i 0)) → stepping f t bytes (held s) ≡ held (after rows t bytes s)
-  unfolding stepping afterIn
-  go-through [] t s g few fit = refl
-  go-through (byte ∷ bytes) t s g few fit =
-      ap (stepping f (suc t) bytes) (one-key t byte s g (omega arith) (fit 0 (omega arith)))
-      ∙ go-through bytes (suc t) (step rows t byte s) (good-step t byte s g) (omega arith) (λ i j. fit (suc i) (omega arith))
-
   good-begin : Good 0 (begin P (wordsOf h f))
   unfolding begin wordsOf
   good-begin = record {
@@ -208,6 +227,22 @@ module _ (f words log answers : List ℕ) (h : Header) (fine : refusalOf f (room
     answers-few = omega arith;
     each = lives-begin rows P (wordsFrom (h .version) f (h .words));
   }
+
+  -- the byte that comes after i bytes of the schedule, and what the state is like then
+  next : (i : ℕ) → i < h .steps → stateAt h f (suc i) ≡ step rows i (byteOf h f i) (stateAt h f i)
+  next i few = after-next rows (scheduleIn h f) i (begin P (wordsOf h f)) (let a = l .file .schedule in omega arith)
+
+  good : (i : ℕ) → i ≤ h .steps → Good i (stateAt h f i)
+  unfolding afterIn
+  good zero few = good-begin
+  good (suc i) few = subst (Good (suc i)) (sym (next i few)) (good-step i (byteOf h f i) (stateAt h f i) (good i (omega arith)))
+
+  -- a byte that is not idle by the bytes before it is not idle by the records, since who is up is who is awake
+  calm : (i : ℕ) → i < h .steps → idleBy (action (byteOf h f i)) (isAwake (procAt (named (byteOf h f i)) (stateAt h f i) .status)) ≡ false
+  unfolding idles
+  calm i few =
+      ap (idleBy (action (byteOf h f i))) (awake-up rows P (wordsOf h f) (named (byteOf h f i)) (named-there h f (roomOf words log answers) l i few) (take i (scheduleIn h f)))
+      ∙ not-idle-test (take i (scheduleIn h f)) (byteOf h f i) (l .not-idle i few)
 
   module _ (idle : take P records ≡ replicate P fresh) where
     -- the start: all idle (R86), over a words buffer that begins with the file's words
@@ -220,17 +255,18 @@ module _ (f words log answers : List ℕ) (h : Header) (fine : refusalOf f (room
 
     -- after the first i keys: no key was refused, and what was lent holds the state after the first i bytes
     pub keys-are : (i : ℕ) → i ≤ h .steps → stepping f 0 (take i (scheduleIn h f)) start ≡ held (after rows 0 (take i (scheduleIn h f)) (begin P (wordsOf h f)))
-    keys-are i few =
-        let whole = l .schedule in
-        let many = length-take-le i (scheduleIn h f) (omega arith) in
-        ap (stepping f 0 (take i (scheduleIn h f))) start-is
-        ∙ go-through (take i (scheduleIn h f)) 0 (begin P (wordsOf h f)) good-begin (omega arith)
-        (λ j n. let m : j < i = omega arith in subst (LawfulByte P) (sym (getD-take i (scheduleIn h f) j 0 m)) (l .actions j (omega arith)))
+    unfolding stepping afterIn
+    keys-are zero few = start-is
+    keys-are (suc i) few =
+        stepping-next f (scheduleIn h f) i start (let a = l .file .schedule in omega arith)
+        ∙ ap (λ p. keyAfter f i (byteOf h f i) p (p .outcome)) (keys-are i (omega arith))
+        ∙ one-key i (byteOf h f i) (stateAt h f i) (good i (omega arith)) few (l .file .actions i few) (named-there h f (roomOf words log answers) l i few) (calm i few)
+        ∙ ap held (sym (next i few))
 
     -- after the whole schedule
     pub ends : stepping f 0 (scheduleIn h f) start ≡ held (endOf h f)
     unfolding endOf
-    ends = subst (λ bytes. stepping f 0 bytes start ≡ held (after rows 0 bytes (begin P (wordsOf h f)))) (take-all (h .steps) (scheduleIn h f) (let e = l .schedule in omega arith)) (keys-are (h .steps) (omega arith))
+    ends = subst (λ bytes. stepping f 0 bytes start ≡ held (after rows 0 bytes (begin P (wordsOf h f)))) (take-all (h .steps) (scheduleIn h f) (let e = l .file .schedule in omega arith)) (keys-are (h .steps) (omega arith))
 
     -- whatever `run` returned and left, over the same file and buffers as long: the counts, the words, the log and the answers are the stepping's (R208)
     pub ends-as-run : (r : RunOutcome) (words′ log′ answers′ : List ℕ) → Ends f words log answers r words′ log′ answers′

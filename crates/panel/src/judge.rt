@@ -1,4 +1,4 @@
-// Whether a key is carried out: refusals 13 to 22, for a file that is accepted; and before them the file's own (R220).
+// Whether a key is carried out: refusals 13 to 15, 21, 22 and 16, for a file that is accepted; and before them the file's own (R220).
 use super::Stroke;
 use super::Table;
 use super::Verdict;
@@ -7,6 +7,7 @@ use super::possible::misdone;
 use super::possible::misplaced;
 use machine::Opened;
 use machine::Process;
+use machine::Status;
 use runfile::Checked;
 use runfile::Header;
 use runfile::Kind;
@@ -19,9 +20,9 @@ ghost use lib.ListN.{length};
 ghost use Rattle.runfile.specs.Format.{RowSize};
 ghost use Rattle.runfile.specs.Operations.{rowsFrom, rowNumbered};
 ghost use Rattle.runfile.specs.Kinds.{kindOf};
-ghost use Rattle.runfile.specs.Lawful.{Lawful, ample};
+ghost use Rattle.runfile.specs.Lawful.{LawfulFile};
 ghost use Rattle.runfile.specs.Shares.{Lined};
-ghost use Rattle.machine.specs.Records.{rowOpen};
+ghost use Rattle.machine.specs.Records.{rowOpen, isAwake};
 ghost use Rattle.panel.specs.Possible as possible;
 ghost use Rattle.panel.specs.Press as press;
 
@@ -94,9 +95,38 @@ fn room_verdict(header: Header, held: usize, room: Room, key: Stroke) -> Verdict
     Verdict::Fine(header)
 }
 
-// 21 and 22: the position, the records and the byte (R231, R232).
+fn is_awake(status: Status) -> bool
+    ensures { λ r. ⌜ r ≡ isAwake status ⌝ }
+{
+    match status {
+        Status::Down => false,
+        Status::Idle => true,
+        Status::N2 => true,
+        Status::N3 => true,
+        Status::Busy {
+            stage: _,
+            word: _,
+            read_at: _,
+            tried_at: _,
+            answer: _,
+        } => true,
+    }
+}
+
+// Whether the byte is a crash of a process that is down by its record, or a wake of one that is awake (R226). A byte names
+// a process by four bits (R71), so there is a record for every byte.
+fn is_idle_key(processes: [Process; 16], byte: u8) -> bool
+    ensures { λ r. ⌜ r ≡ press.idleKey processes byte ⌝ }
+{
+    let named = runfile::index8(byte % 16);
+    let process = processes[named];
+    let status = process.status;
+    runfile::is_idle(byte, is_awake(status))
+}
+
+// 21, 22 and 16: the position, the records and the byte (R231, R232, R226).
 fn sound_verdict(file: &[u8], header: Header, processes: [Process; 16], key: Stroke) -> Verdict
-    requires { ⌜ Lawful header (now file) ample ⌝ }
+    requires { ⌜ LawfulFile header (now file) ⌝ }
     ensures { λ r. ⌜ r ≡ press.sound header (now (file .entry)) processes key ⌝ }
 {
     if 1023 < key.position {
@@ -111,6 +141,9 @@ fn sound_verdict(file: &[u8], header: Header, processes: [Process; 16], key: Str
     }
     if runfile::is_bad_byte(key.byte, header.processes) {
         return Verdict::Not(Why::Key, 0);
+    }
+    if is_idle_key(processes, key.byte) {
+        return Verdict::Not(Why::Run(Refusal::Idle), 0);
     }
     Verdict::Fine(header)
 }

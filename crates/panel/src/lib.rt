@@ -27,7 +27,7 @@ pub struct Stroke {
 // Why a key is refused.
 pub enum Why {
     // One that a run has too: 1 to 12 are the file's (R221). `WordsRoom` is also a list of records that is too short (R223),
-    // and `LogRoom` and `AnswersRoom` say that one row more does not fit (R224, R225).
+    // `LogRoom` and `AnswersRoom` say that one row more does not fit (R224, R225), and `Idle` is of the key's byte (R226).
     Run(runfile::Refusal),
     // The position, or a record, cannot be (R231).
     Record,

@@ -74,16 +74,16 @@ module _ (h : Header) (f words log answers : List ℕ) (l : Lawful h f (roomOf w
   -- what the run asks
   pub runnable : Runnable (wholeOf (strideOf h) (h .rows) (h .processes) fresh) (drop (rowsStart h) f) (scheduleIn h f) (wordsFrom (h .version) f (h .words)) log answers
   runnable =
-      let exact = l .head .exact in
-      let size = l .schedule in
-      let steps = l .head .steps in
+      let exact = l .file .head .exact in
+      let size = l .file .schedule in
+      let steps = l .file .head .steps in
       let log-room = l .log-room in
       let answers-room = l .answers-room in
       record {
-        lined = lined-part h f (roomOf words log answers) l;
-        on-words = λ k i. rw (length-wordsFrom (h .version) f (h .words)) (words-part h f (roomOf words log answers) l k i);
-        present = l .head .processes;
-        lawful = λ i b. l .actions i (let s = l .schedule in omega arith);
+        lined = lined-part h f (l .file);
+        on-words = λ k i. rw (length-wordsFrom (h .version) f (h .words)) (words-part h f (l .file) k i);
+        present = l .file .head .processes;
+        lawful = λ i b. l .file .actions i (let s = l .file .schedule in omega arith);
         early = omega arith;
         log-room = omega arith;
         answers-room = omega arith;
@@ -95,7 +95,7 @@ module _ (h : Header) (f words log answers : List ℕ) (l : Lawful h f (roomOf w
 
   the-end : reached ≡ endOf h f
   unfolding endOf wordsOf
-  the-end = rw (table-part h f) (ap (after (tableOf h f) 0 (scheduleIn h f)) (lent-first (h .processes) (wordsFrom (h .version) f (h .words)) log answers (l .head .processes)))
+  the-end = rw (table-part h f) (ap (after (tableOf h f) 0 (scheduleIn h f)) (lent-first (h .processes) (wordsFrom (h .version) f (h .words)) log answers (l .file .head .processes)))
 
   end-length : length (endOf h f .words) ≡ h .words
   unfolding endOf begin wordsOf
@@ -128,16 +128,4 @@ module _ (h : Header) (f words log answers : List ℕ) (l : Lawful h f (roomOf w
 
   -- the front of the words buffer, lent on
   pub part-lawful : (part : List ℕ) → length part ≡ h .words → Lawful h f (roomOf part log answers)
-  part-lawful part size = record {
-    header = l .header;
-    long = l .long;
-    head = l .head;
-    rows = l .rows;
-    ordered = l .ordered;
-    differ = l .differ;
-    actions = l .actions;
-    schedule = l .schedule;
-    words-room = omega arith;
-    log-room = l .log-room;
-    answers-room = l .answers-room;
-  }
+  part-lawful part size = record { file = l .file; not-idle = l .not-idle; words-room = omega arith; log-room = l .log-room; answers-room = l .answers-room }

@@ -22,5 +22,5 @@ first-bytes f words log answers r words′ log′ answers′ e = go (refusalOf f
         let h = subst (λ c. EndsAs c (take enough f) words log answers r words′ log′ answers′) (decided f (roomOf words log answers) ∙ q) e in
         subst (λ c. EndsAs c f words log answers r words′ log′ answers′) (sym q) (record { result = h .result; words-are = h .words-are; log-is = h .log-is; answers-are = h .answers-are })
     go (Accepted h) q =
-        let few : length f ≤ enough = (let l = longest-any h f (lawful f (roomOf words log answers) h q .head) in omega arith) in
+        let few : length f ≤ enough = (let l = longest-any h f (lawful f (roomOf words log answers) h q .file .head) in omega arith) in
         subst (λ g. Ends g words log answers r words′ log′ answers′) (take-all enough f few) e

@@ -1,7 +1,6 @@
 -- The rows of the file's part that begins at a place are the rows of the file from there on.
-use Rattle.runfile.specs.Lawful.{Lawful}
+use Rattle.runfile.specs.Lawful.{LawfulFile}
 use Rattle.runfile.specs.Shares.{Lined}
-use Rattle.runfile.specs.declared.Room.{Room}
 use Rattle.runfile.specs.declared.Header.{Header}
 use Rattle.runfile.specs.declared.Row.{Row}
 use mathlib.Core.Path.{_≡_, sym, ap, subst, _∙_}
@@ -28,7 +27,7 @@ pub table-part : (h : Header) (f : List ℕ) → rowsFrom (strideOf h) (tablePar
 unfolding tableOf
 table-part h f = rows-part (strideOf h) f (rowsStart h) 0 (h .rows) ∙ ap (λ i. rowsFrom (strideOf h) f i (h .rows)) (add-zero (rowsStart h))
 
-module _ (h : Header) (f : List ℕ) (room : Room) (l : Lawful h f room) where
+module _ (h : Header) (f : List ℕ) (l : LawfulFile h f) where
   row-there : (k : ℕ) → rowOfTable (strideOf h) (tablePart h f) k ≡ rowIn (strideOf h) f (rowsStart h) k
   row-there k = row-part (strideOf h) f (rowsStart h) (k * strideOf h)
 

@@ -1,7 +1,7 @@
 -- A file of version 1 prints what it printed (R18): its log rows, its answer rows, and the value and the flip bits of each final word are those of the
 -- machine as it was, which is the same step rules at the width of version 1, on the words as they stand in the file. The words are read widened
 -- (`as-read`), what a row of version 1 swaps in fits the narrower width, and then the runs at the two widths are alike (`alike`).
-use Prim.Native.Nat.{ℕ, zero, suc, _+_, _*_, _/_, _%_, _^_, _≤_, _<_}
+use Prim.Native.Nat.{ℕ, zero, suc, _+_, _*_, _/_, _%_, _^_, _<_}
 use mathlib.Core.Path.{_≡_, refl, sym, ap, ap₂, subst, _∙_}
 use mathlib.Core.Bool.{Bool, true, false}
 use mathlib.Core.List.{List, [], _∷_, _++_, map}
@@ -85,4 +85,4 @@ module _ (f : List ℕ) (bytes : (at : ℕ) → byteAt f at < 256) (h : Header) 
 
 -- and so of every file of version 1 that is accepted
 pub printed-accepted : (f : List ℕ) → ((at : ℕ) → byteAt f at < 256) → (h : Header) (room : Room) → Lawful h f room → h .version ≡ 1 → PrintsAlike narrow width (asItWas h f) (endOf h f)
-printed-accepted f bytes h room l first = printed f bytes h first (λ k within. l .rows k within .no-advance first)
+printed-accepted f bytes h room l first = printed f bytes h first (λ k within. l .file .rows k within .no-advance first)

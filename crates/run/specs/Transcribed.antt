@@ -13,6 +13,7 @@ use Rattle.runfile.specs.declared.Checked.{Checked}
 use Rattle.runfile.specs.declared.Checked.the-variants as checked
 use Rattle.runfile.specs.Format.{headSize, wordSize, rowSize, newPlace}
 use Rattle.runfile.specs.Layout.{u16At, u32At, u64At, widened, marked, headerIn, numberAt, rowAt, scheduleIn}
+use Rattle.runfile.specs.Ups.{upFrom, idles}
 use Rattle.runfile.specs.Operations.{wordsOf, tableOf}
 use Rattle.runfile.specs.Refusals.{badField, sameFields, badByte, firstBadField, firstRow, firstLaterRow, firstByte, refusalOf}
 use Rattle.runfile.specs.Table.{rowOf, zeroByteOf}
@@ -142,9 +143,9 @@ abbrev room : Room
 room = record { words = 1; log = 60; answers = 60 }
 
 pub both-accepted : (refusalOf (narrowFile 9) room ≡ checked.Accepted (headerIn (narrowFile 9))) × (refusalOf (wideFile 9) room ≡ checked.Accepted (headerIn (wideFile 9)))
-unfolding refusalOf headSize wordSize rowSize newPlace headerIn u16At u32At marked numberAt rowAt badField sameFields badByte firstBadField firstRow firstLaterRow firstByte
+unfolding refusalOf headSize wordSize rowSize newPlace headerIn u16At u32At marked numberAt rowAt badField sameFields badByte firstBadField firstRow firstLaterRow firstByte idles upFrom
 both-accepted = (refl, refl)
 
 pub both-refused : (refusalOf (narrowFile 7) room ≡ checked.Refused refusal.Same 23) × (refusalOf (wideFile 7) room ≡ checked.Refused refusal.Same 31)
-unfolding refusalOf headSize wordSize rowSize newPlace headerIn u16At u32At marked numberAt rowAt badField sameFields badByte firstBadField firstRow firstLaterRow firstByte
+unfolding refusalOf headSize wordSize rowSize newPlace headerIn u16At u32At marked numberAt rowAt badField sameFields badByte firstBadField firstRow firstLaterRow firstByte idles upFrom
 both-refused = (refl, refl)

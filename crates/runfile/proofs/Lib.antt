@@ -3,3 +3,4 @@ pub mod First
 pub mod Below
 pub mod Bytes
 pub mod Tables
+pub mod Idle

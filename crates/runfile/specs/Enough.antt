@@ -16,7 +16,7 @@ use Rattle.runfile.specs.declared.Checked.{Checked}
 use Rattle.runfile.specs.declared.Checked.the-variants.{Accepted, Refused}
 use Rattle.runfile.specs.Format.{leastHead, longest-holds, longestOfAll, longest-most}
 use Rattle.runfile.specs.Layout.{u16At, marked, headerIn, lengthGiven}
-use Rattle.runfile.specs.Refusals.{outOfRange, found, firstOf, countChecks, bodyChecks, roomChecks, refusalOf}
+use Rattle.runfile.specs.Refusals.{outOfRange, found, firstOf, countChecks, bodyChecks, laterChecks, refusalOf}
 use Rattle.runfile.specs.Order.{passes, stops, accepts, whole-clear}
 use Rattle.runfile.specs.Lawful.{in-range}
 
@@ -29,7 +29,7 @@ abbrev front : List Refusal
 front = refusal.Short ∷ (refusal.Mark ∷ countChecks)
 
 abbrev behind : List Refusal
-behind = bodyChecks ++ roomChecks
+behind = bodyChecks ++ laterChecks
 
 -- the header and the mark are in the first eleven bytes
 same-header : (f : List ℕ) (n : ℕ) → leastHead ≤ n → headerIn (take n f) ≡ headerIn f

@@ -8,7 +8,7 @@ use mathlib.Core.Bool.{Bool, true, false, true≢false, cond, not, _&&_, _||_}
 use mathlib.Core.List.{List, [], _∷_}
 use native.Mathlib.Omega.{arith}
 use lib.Dec.{leb, ltb, eqb}
-use lib.ListN.{getD, length}
+use lib.ListN.{getD, length, take}
 use borrow.Author.Tests.{ltb-true, ltb-false, leb-true, leb-false, eqb-true, eqb-false, not-true, not-false, eq-eqb}
 use Rattle.runfile.specs.declared.Header.{Header}
 use Rattle.runfile.specs.declared.Row.{Row}
@@ -25,12 +25,13 @@ use Rattle.runfile.specs.declared.Checked.the-variants.{Accepted, Refuse
 use Rattle.runfile.specs.Format.{offsetOf}
 use Rattle.runfile.specs.Layout.{marked, headerIn, rowsStart, strideOf, rowPlace, scheduleIn, lengthGiven}
 use Rattle.runfile.specs.Fields.{fields, fieldAt, orderOf, ordered, order-at, rising}
-use Rattle.runfile.specs.Actions.{crashAll, none, actionOf}
+use Rattle.runfile.specs.Actions.{Action, step, crash, wake, crashAll, none, actionOf, action, named}
+use Rattle.runfile.specs.Ups.{isUp, idleBy, idles}
 use Rattle.runfile.specs.Kinds.{kindOf}
 use Rattle.runfile.specs.Refusals.{placeOf, outOfRange, zeroOld, zeroNew, badField, badIn, sameBy, sameFields, badAction, badByte, foundIf, firstOffender, badFieldIn, firstBadField, firstRow, firstLaterRow, firstByte, whole, found, orElse, firstOf, inOrder, refusalOf}
-use Rattle.runfile.specs.Table.{Marked, BadField, BadIn, ZeroOld, ZeroNew, Same, SameFields, FirstBadField, BadByte, First, rowOf, zeroByteOf, byteOf, Given, Earlier}
+use Rattle.runfile.specs.Table.{Marked, BadField, BadIn, ZeroOld, ZeroNew, Same, SameFields, FirstBadField, BadByte, IdleByte, First, rowOf, zeroByteOf, byteOf, Given, Earlier}
 use Rattle.runfile.specs.Table as table
-use Rattle.runfile.specs.Lawful.{LawfulByte, of-one, of-all, has-mark, in-range, neither, not-both, no-bad-field, lawful-byte, high-action, lawful}
+use Rattle.runfile.specs.Lawful.{LawfulByte, NotIdle, of-one, of-all, has-mark, in-range, neither, not-both, no-bad-field, lawful-byte, not-idle-byte, high-action, lawful}
 use Rattle.runfile.specs.Searches.{not-found, is-found, Earliest, earliest, found-earliest, found-none}
 use Rattle.runfile.specs.Order.{Clear, accepts, accepted}
 
@@ -231,6 +232,24 @@ not-both-bytes processes byte (of-all a b) (table.low-bits c d) = d b
 tells-byte : (processes byte : ℕ) → Tells (badByte processes byte) (BadByte processes byte)
 tells-byte processes byte = record { true-is = bad-byte processes byte; false-is = λ e. not-both-bytes processes byte (lawful-byte processes byte e) }
 
+idle-byte : (before : List ℕ) (byte : ℕ) → idles before byte ≡ true → IdleByte before byte
+unfolding idles
+idle-byte before byte e = go (action byte) refl e
+  where
+    go : (a : Action) → action byte ≡ a → idleBy a (isUp before (named byte)) ≡ true → IdleByte before byte
+    go step q e = absurd (true≢false (sym e))
+    go crash q e = table.crash-of-down q (not-true _ e)
+    go wake q e = table.wake-of-up q e
+    go crashAll q e = absurd (true≢false (sym e))
+    go none q e = absurd (true≢false (sym e))
+
+not-idle-and-idle : (before : List ℕ) (byte : ℕ) → NotIdle before byte → IdleByte before byte → ⊥
+not-idle-and-idle before byte n (table.crash-of-down a down) = true≢false (sym (n .crash-of-up a) ∙ down)
+not-idle-and-idle before byte n (table.wake-of-up a up) = true≢false (sym up ∙ n .wake-of-down a)
+
+tells-idle : (before : List ℕ) (byte : ℕ) → Tells (idles before byte) (IdleByte before byte)
+tells-idle before byte = record { true-is = idle-byte before byte; false-is = λ e. not-idle-and-idle before byte (not-idle-byte before byte e) }
+
 -- each line of the table: the check finds a place exactly when the line gives the refusal there
 pub line : (h : Header) (f : List ℕ) (room : Room) (why : Refusal) (at : ℕ) → (found h f room why ≡ At at) ↔ Given h f room why at
 unfolding firstRow firstLaterRow firstByte
@@ -246,6 +265,7 @@ line h f room refusal.Row at = (field-found h f at, found-field h f at)
 line h f room refusal.Order at = first-iff _ _ _ (λ k. less (rowOf h f k .process) (rowOf h f (k - 1) .process)) 1 (h .rows - 1) at
 line h f room refusal.Same at = first-iff _ _ _ (λ k. tells-same (rowOf h f k)) 0 (h .rows) at
 line h f room refusal.Action at = first-iff _ _ _ (λ i. tells-byte (h .processes) (byteOf h f i)) 0 (length (scheduleIn h f)) at
+line h f room refusal.Idle at = first-iff _ _ _ (λ i. tells-idle (take i (scheduleIn h f)) (byteOf h f i)) 0 (length (scheduleIn h f)) at
 line h f room refusal.WordsRoom at = whole-iff _ _ at (less (room .words) (h .words))
 line h f room refusal.LogRoom at = whole-iff _ _ at (less (room .log) (5 * h .steps))
 line h f room refusal.AnswersRoom at = whole-iff _ _ at (less (room .answers) (5 * h .steps))
@@ -267,7 +287,7 @@ Placed n [] = Unit
 Placed n (why ∷ later) = (placeOf why ≡ n) × Placed (suc n) later
 
 pub in-order : Placed 0 inOrder
-in-order = (refl, (refl, (refl, (refl, (refl, (refl, (refl, (refl, (refl, (refl, (refl, (refl, (refl, (refl, (refl, tt)))))))))))))))
+in-order = (refl, (refl, (refl, (refl, (refl, (refl, (refl, (refl, (refl, (refl, (refl, (refl, (refl, (refl, (refl, (refl, tt))))))))))))))))
 
 -- so a place in the list names one check, and each check has one
 pub placed : (why : Refusal) → (getD inOrder (placeOf why) refusal.Short ≡ why) × (placeOf why < length inOrder)
@@ -283,6 +303,7 @@ placed refusal.Row = (refl, omega arith)
 placed refusal.Order = (refl, omega arith)
 placed refusal.Same = (refl, omega arith)
 placed refusal.Action = (refl, omega arith)
+placed refusal.Idle = (refl, omega arith)
 placed refusal.WordsRoom = (refl, omega arith)
 placed refusal.LogRoom = (refl, omega arith)
 placed refusal.AnswersRoom = (refl, omega arith)
@@ -328,7 +349,7 @@ module _ (finds : Refusal → Found) (h : Header) (why : Refusal) (at : ℕ) whe
           let x : placeOf w ≡ placeOf why = (let y = ltb-false n (placeOf why) t in let z = num .0 in omega arith) in
           rw (one-place w why x, q)
 
--- Refusal `why` is given at place `at` exactly when the table's line says so and no earlier line gives a refusal (R32, R41 to R55).
+-- Refusal `why` is given at place `at` exactly when the table's line says so and no earlier line gives a refusal (R32, R41 to R56).
 pub exactly : (f : List ℕ) (room : Room) (why : Refusal) (at : ℕ)
     → (refusalOf f room ≡ Refused why at)
     ↔ (Given (headerIn f) f room why at × ((e : Refusal) → Earlier e why → (p : ℕ) → Given (headerIn f) f room e p → ⊥))
@@ -363,4 +384,4 @@ exactly-accepted f room =
 
 -- So the answer is one of the two: refused as the table says, or accepted with the file's header.
 pub answered : (f : List ℕ) (room : Room) (h : Header) → refusalOf f room ≡ Accepted h → h ≡ headerIn f
-answered f room h e = lawful f room h e .header
+answered f room h e = lawful f room h e .file .header

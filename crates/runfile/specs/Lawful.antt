@@ -6,8 +6,8 @@ use mathlib.Core.Bool.{Bool, true, false, cond, not, _&&_, _||_, true≢false}
 use mathlib.Core.List.{List}
 use native.Mathlib.Omega.{arith}
 use lib.Dec.{ltb, eqb}
-use lib.ListN.{getD, length, length-drop}
-use borrow.Author.Tests.{ltb-false, leb-false, eqb-false, eqb-true, eq-eqb, not-false, ne-eqb, le-ltb, lt-leb}
+use lib.ListN.{getD, length, take, length-drop}
+use borrow.Author.Tests.{ltb-false, leb-false, eqb-false, eqb-true, eq-eqb, not-false, ne-eqb, lt-leb}
 use Rattle.runfile.specs.declared.Header.{Header}
 use Rattle.runfile.specs.declared.Row.{Row}
 use Rattle.runfile.specs.declared.Kind.{Kind}
@@ -15,16 +15,18 @@ use Rattle.runfile.specs.declared.Kind.the-variants.{Read, Compare, Adva
 use Rattle.runfile.specs.declared.Field.{Field}
 use Rattle.runfile.specs.declared.Field.the-variants as field
 use Rattle.runfile.specs.declared.Room.{Room}
+use Rattle.runfile.specs.declared.Refusal.the-variants as refusal
 use Rattle.runfile.specs.declared.Found.the-variants.{Nowhere}
 use Rattle.runfile.specs.declared.Checked.the-variants.{Accepted}
 use Rattle.runfile.specs.Format.{leastHead, offsetOf, longestFile, longest-holds, longestOfAll, longest-most}
 use Rattle.runfile.specs.Layout.{marked, headerIn, rowsStart, strideOf, rowPlace, scheduleStart, scheduleIn, lengthGiven}
 use Rattle.runfile.specs.Fields.{fields, fieldAt, orderOf, ordered}
-use Rattle.runfile.specs.Actions.{crashAll, none, actionOf}
+use Rattle.runfile.specs.Actions.{Action, step, crash, wake, crashAll, none, actionOf, action, named}
+use Rattle.runfile.specs.Ups.{isUp, idleBy, idles}
 use Rattle.runfile.specs.Kinds.{kindOf}
-use Rattle.runfile.specs.Refusals.{unknownVersion, outOfRange, zeroOld, zeroNew, badField, badIn, sameBy, sameFields, badAction, badByte, offendsAt, badFieldIn, firstBadField, firstRow, firstLaterRow, firstByte, below, same, found, headChecks, bodyChecks, fileChecks, roomChecks, inOrder, refusalOf, noRoom, fileRefusal}
+use Rattle.runfile.specs.Refusals.{unknownVersion, outOfRange, zeroOld, zeroNew, badField, badIn, sameBy, sameFields, badAction, badByte, offendsAt, badFieldIn, firstBadField, firstRow, firstLaterRow, firstByte, below, same, found, headChecks, bodyChecks, fileChecks, laterChecks, inOrder, refusalOf, noRoom, fileRefusal}
 use Rattle.runfile.specs.Table.{Marked, Same, SameFields, rowOf, zeroByteOf, byteOf}
-use Rattle.runfile.specs.Order.{Clear, clear-parts, accepts, accepted, passes, whole-clear}
+use Rattle.runfile.specs.Order.{Clear, clear-parts, accepts, accepted, whole-clear}
 use Rattle.runfile.specs.Searches.{none-found, none-offends}
 
 -- refusals 2 to 8 are not given
@@ -54,8 +56,13 @@ pub data LawfulByte (processes byte : ℕ) : Type 0 where
   of-one : byte / 16 < 3 → byte % 16 < processes → LawfulByte processes byte
   of-all : byte / 16 ≡ 15 → byte % 16 ≡ 0 → LawfulByte processes byte
 
--- a file that is not refused, with buffers of these lengths
-pub record Lawful (h : Header) (f : List ℕ) (room : Room) : Type 0 where
+-- refusal 16 is not given for this byte after these: a crash is of a process that is up, a wake of one that is down (R56)
+pub record NotIdle (before : List ℕ) (byte : ℕ) : Type 0 where
+  pub crash-of-up : action byte ≡ crash → isUp before (named byte) ≡ true
+  pub wake-of-down : action byte ≡ wake → isUp before (named byte) ≡ false
+
+-- a file that refusals 1 to 12 do not refuse: all that the panel asks of a file (R221)
+pub record LawfulFile (h : Header) (f : List ℕ) : Type 0 where
   pub header : h ≡ headerIn f
   pub long : leastHead ≤ length f
   pub head : LawfulHead h f
@@ -64,6 +71,11 @@ pub record Lawful (h : Header) (f : List ℕ) (room : Room) : Type 0 where
   pub differ : (k : ℕ) → k < h .rows → SameFields (rowOf h f k) → ⊥
   pub actions : (i : ℕ) → i < h .steps → LawfulByte (h .processes) (byteOf h f i)
   pub schedule : length (scheduleIn h f) ≡ h .steps
+
+-- a file that is not refused, with buffers of these lengths
+pub record Lawful (h : Header) (f : List ℕ) (room : Room) : Type 0 where
+  pub file : LawfulFile h f
+  pub not-idle : (i : ℕ) → i < h .steps → NotIdle (take i (scheduleIn h f)) (byteOf h f i)
   pub words-room : h .words ≤ room .words
   pub log-room : 5 * h .steps ≤ room .log
   pub answers-room : 5 * h .steps ≤ room .answers
@@ -181,61 +193,75 @@ no-bad-field h s f start k e x =
     let o = ordered x in
     subst (λ y. badIn h s f start k y ≡ false) (o .1) (none-offends (λ i. rowPlace s start k + offsetOf s (fieldAt i)) (λ i. badIn h s f start k (fieldAt i)) 0 (length fields) e (orderOf x) (omega arith) (let b = o .0 in omega arith))
 
-pub lawful : (f : List ℕ) (room : Room) (h : Header) → refusalOf f room ≡ Accepted h → Lawful h f room
-unfolding refusalOf firstBadField firstRow firstLaterRow firstByte sameFields
-lawful f room h e =
-    let g : Header = headerIn f in
-    let a = accepts (found g f room) g inOrder h e in
-    let finds = found h f room in
-    let c : Clear finds inOrder = rw (a .0) at (a .1) in
-    let d = clear-parts finds fileChecks roomChecks c in
-    let b = clear-parts finds headChecks bodyChecks (d .0 .1) in
+pub not-idle-byte : (before : List ℕ) (byte : ℕ) → idles before byte ≡ false → NotIdle before byte
+unfolding idles
+not-idle-byte before byte e = record {
+  crash-of-up = λ q. not-false (isUp before (named byte)) (rw q at e);
+  wake-of-down = λ q. rw q at e;
+}
+
+pub not-idle-test : (before : List ℕ) (byte : ℕ) → NotIdle before byte → idles before byte ≡ false
+unfolding idles
+not-idle-test before byte n = go (action byte) (isUp before (named byte)) (n .crash-of-up) (n .wake-of-down)
+  where
+    go : (a : Action) (up : Bool) → (a ≡ crash → up ≡ true) → (a ≡ wake → up ≡ false) → idleBy a up ≡ false
+    go step up c w = refl
+    go crash up c w = ap not (c refl)
+    go wake up c w = w refl
+    go crashAll up c w = refl
+    go none up c w = refl
+
+-- from checks 1 to 12 that found nothing, whatever the buffers are
+lawful-checks : (f : List ℕ) (room : Room) (h : Header) → h ≡ headerIn f → Clear (found h f room) fileChecks → LawfulFile h f
+unfolding firstBadField firstRow firstLaterRow firstByte sameFields
+lawful-checks f room h is c =
+    let b = clear-parts (found h f room) headChecks bodyChecks (c .1) in
     let head = lawful-head h f room (b .0) in
     let body = b .1 in
     let start : ℕ = rowsStart h in
     let s : ℕ = strideOf h in
     let steps : length (scheduleIn h f) ≡ h .steps = simp length-drop (let x = head .exact in omega arith) in
     record {
-      header = sym (a .0);
-      long = ltb-false (length f) leastHead (whole-clear (ltb (length f) leastHead) (d .0 .0));
+      header = is;
+      long = ltb-false (length f) leastHead (whole-clear (ltb (length f) leastHead) (c .0));
       head = head;
       rows = λ k l. lawful-row h (rowOf h f k) (zeroByteOf h f k) (no-bad-field h s f start k (none-found (badFieldIn h s f start) 0 (h .rows) (body .0) k (omega arith) (omega arith)));
       ordered = λ k l. ltb-false (rowOf h f (suc k) .process) (rowOf h f k .process) (let back : suc k - 1 ≡ k = omega arith in rw back at (none-offends (rowPlace s start) (below s f start) 1 (h .rows - 1) (body .1 .0) (suc k) (omega arith) (omega arith)));
       differ = λ k l. not-same (rowOf h f k) (none-offends (rowPlace s start) (same s f start) 0 (h .rows) (body .1 .1 .0) k (omega arith) (omega arith));
       actions = λ i l. lawful-byte (h .processes) (byteOf h f i) (none-offends (λ j. scheduleStart h + j) (offendsAt (λ before. badByte (h .processes)) (scheduleIn h f)) 0 (length (scheduleIn h f)) (body .1 .1 .1 .0) i (omega arith) (omega arith));
       schedule = steps;
-      words-room = ltb-false (room .words) (h .words) (whole-clear (ltb (room .words) (h .words)) (d .1 .0));
-      log-room = ltb-false (room .log) (5 * h .steps) (whole-clear (ltb (room .log) (5 * h .steps)) (d .1 .1 .0));
-      answers-room = ltb-false (room .answers) (5 * h .steps) (whole-clear (ltb (room .answers) (5 * h .steps)) (d .1 .1 .1 .0));
     }
 
--- a file that is not refused by 1 to 12 is accepted with any buffers that have room; and the other way round
-pub file-room : (f : List ℕ) (room : Room) (h : Header) → fileRefusal f ≡ Accepted h
-    → h .words ≤ room .words → 5 * h .steps ≤ room .log → 5 * h .steps ≤ room .answers → refusalOf f room ≡ Accepted h
-unfolding fileRefusal refusalOf
-file-room f room h e words log answers =
-    let g = headerIn f in
+pub lawful-file : (f : List ℕ) (h : Header) → fileRefusal f ≡ Accepted h → LawfulFile h f
+unfolding fileRefusal
+lawful-file f h e =
+    let g : Header = headerIn f in
     let a = accepts (found g f noRoom) g fileChecks h e in
-    passes (found g f room) g fileChecks roomChecks g (accepted (found g f room) g fileChecks (a .1))
-    ∙ rw (a .0, le-ltb (room .words) (h .words) words, le-ltb (room .log) (5 * h .steps) log, le-ltb (room .answers) (5 * h .steps) answers) refl
+    lawful-checks f noRoom h (sym (a .0)) (rw (a .0) at (a .1))
 
+pub lawful : (f : List ℕ) (room : Room) (h : Header) → refusalOf f room ≡ Accepted h → Lawful h f room
+unfolding refusalOf firstByte
+lawful f room h e =
+    let g : Header = headerIn f in
+    let a = accepts (found g f room) g inOrder h e in
+    let finds = found h f room in
+    let c : Clear finds inOrder = rw (a .0) at (a .1) in
+    let d = clear-parts finds fileChecks laterChecks c in
+    let file = lawful-checks f room h (sym (a .0)) (d .0) in
+    let rooms = d .1 .1 in
+    record {
+      file = file;
+      not-idle = λ i l. not-idle-byte (take i (scheduleIn h f)) (byteOf h f i) (none-offends (λ j. scheduleStart h + j) (offendsAt idles (scheduleIn h f)) 0 (length (scheduleIn h f)) (d .1 .0) i (omega arith) (let s = file .schedule in omega arith));
+      words-room = ltb-false (room .words) (h .words) (whole-clear (ltb (room .words) (h .words)) (rooms .0));
+      log-room = ltb-false (room .log) (5 * h .steps) (whole-clear (ltb (room .log) (5 * h .steps)) (rooms .1 .0));
+      answers-room = ltb-false (room .answers) (5 * h .steps) (whole-clear (ltb (room .answers) (5 * h .steps)) (rooms .1 .1 .0));
+    }
+
+-- a file that is accepted with some buffers is not refused by 1 to 12
 pub room-file : (f : List ℕ) (room : Room) (h : Header) → refusalOf f room ≡ Accepted h → fileRefusal f ≡ Accepted h
 unfolding fileRefusal refusalOf
 room-file f room h e =
     let g = headerIn f in
     let a = accepts (found g f room) g inOrder h e in
-    let c = clear-parts (found g f room) fileChecks roomChecks (a .1) .0 in
+    let c = clear-parts (found g f room) fileChecks laterChecks (a .1) .0 in
     accepted (found g f noRoom) g fileChecks c ∙ ap Accepted (a .0)
-
--- room for any run; a file that is not refused by 1 to 12 is lawful with it
-abbrev pub ample : Room
-ample = record { words = 16; log = 5120; answers = 5120 }
-
-pub lawful-file : (f : List ℕ) (h : Header) → fileRefusal f ≡ Accepted h → Lawful h f ample
-unfolding fileRefusal
-lawful-file f h e =
-    let a = accepts (found (headerIn f) f noRoom) (headerIn f) fileChecks h e in
-    let c : Clear (found h f noRoom) fileChecks = rw (a .0) at (a .1) in
-    let head = lawful-head h f noRoom (clear-parts (found h f noRoom) headChecks bodyChecks (c .1) .0) in
-    let few = head .steps in
-    lawful f ample h (file-room f ample h e (head .words) (omega arith) (omega arith))

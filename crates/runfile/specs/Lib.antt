@@ -7,6 +7,7 @@ pub mod OperationLaws
 pub mod RowLaws
 pub mod Shares
 pub mod Actions
+pub mod Ups
 pub mod Refusals
 pub mod Table
 pub mod Searches

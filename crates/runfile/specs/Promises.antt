@@ -17,18 +17,20 @@ use Rattle.runfile.specs.declared.Checked.the-variants.{Accepted, Refuse
 use Rattle.runfile.specs.Format.{leastHead, RowSize}
 use Rattle.runfile.specs.Layout.{headerIn, u32At, wordIn, rowOfTable, strideOf, rowsStart, scheduleStart}
 use Rattle.runfile.specs.Kinds.{kindOf}
+use Rattle.runfile.specs.Actions.{action}
+use Rattle.runfile.specs.Ups.{idleBy}
 use Rattle.runfile.specs.Operations.{count}
 use Rattle.runfile.specs.Shares.{Counted, Summed, sumTo, sixteen-one}
 use Rattle.runfile.specs.Refusals.{numberOf, badByte, refusalOf, fileRefusal}
 use Rattle.runfile.specs.Table.{Given, Earlier}
 use Rattle.runfile.specs.Exactly.{exactly}
-use Rattle.runfile.specs.Lawful.{Lawful, lawful}
+use Rattle.runfile.specs.Lawful.{Lawful, LawfulFile, lawful, lawful-file}
 
 -- `check(file, room)`, for every byte string and every three lengths (R240)
 pub record Decides (f : List ℕ) (room : Room) (r : Checked) : Type 0 where
   pub result : r ≡ refusalOf f room
 
--- `refusal_number(why)` (R41 to R55)
+-- `refusal_number(why)` (R41 to R56)
 pub record Numbers (why : Refusal) (r : ℕ) : Type 0 where
   pub result : r ≡ numberOf why
 
@@ -91,6 +93,10 @@ Index16 x r = (r ≡ x) × (r < 65536)
 abbrev pub ByteJudged : (byte processes : ℕ) (r : Bool) → Type 0
 ByteJudged byte processes r = r ≡ badByte processes byte
 
+-- `is_idle(byte, up)`: whether refusal 16 is given for the byte, if the process that it names is up, or is not (R56)
+abbrev pub IdleJudged : (byte : ℕ) (up r : Bool) → Type 0
+IdleJudged byte up r = r ≡ idleBy (action byte) up
+
 pub kind-read-one : (row : Row) (r q : Kind) → KindRead row r → KindRead row q → r ≡ q
 kind-read-one row r q a b = a ∙ sym b
 
@@ -127,6 +133,9 @@ index16-one x r q a b = a .0 ∙ sym (b .0)
 pub byte-judged-one : (byte processes : ℕ) (r q : Bool) → ByteJudged byte processes r → ByteJudged byte processes q → r ≡ q
 byte-judged-one byte processes r q a b = a ∙ sym b
 
+pub idle-judged-one : (byte : ℕ) (up r q : Bool) → IdleJudged byte up r → IdleJudged byte up q → r ≡ q
+idle-judged-one byte up r q a b = a ∙ sym b
+
 -- `counts_of(table, stride, rows)`, `firsts_of(counts)`
 pub counted-one : (rows : List Row) (r q : List ℕ) → Counted rows r → Counted rows q → r ≡ q
 counted-one rows = sixteen-one (count rows)
@@ -143,3 +152,6 @@ decides-exactly f room r d why at = let x = exactly f room why at in (λ e. x .0
 -- and what it accepts is lawful, with the header that it hands over
 pub decides-lawful : (f : List ℕ) (room : Room) (r : Checked) → Decides f room r → (h : Header) → r ≡ Accepted h → Lawful h f room
 decides-lawful f room r d h e = lawful f room h (sym (d .result) ∙ e)
+
+pub decides-file-lawful : (f : List ℕ) (r : Checked) → DecidesFile f r → (h : Header) → r ≡ Accepted h → LawfulFile h f
+decides-file-lawful f r d h e = lawful-file f h (sym d ∙ e)

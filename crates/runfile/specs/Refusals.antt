@@ -1,4 +1,4 @@
--- What is refused, as a computation (R30 to R55). `found` is the table, a line for each refusal; Table.antt says the same in propositions,
+-- What is refused, as a computation (R30 to R56). `found` is the table, a line for each refusal; Table.antt says the same in propositions,
 -- and Exactly.antt proves that the two agree.
 use Prim.Native.Nat.{ℕ, zero, suc, _+_, _*_, _-_}
 use mathlib.Core.Bool.{Bool, true, false, not, _&&_, _||_}
@@ -23,8 +23,9 @@ use Rattle.runfile.specs.Layout.{marked, headerIn, rowsStart, strideOf, 
 use Rattle.runfile.specs.Fields.{fields, fieldAt}
 use Rattle.runfile.specs.Kinds.{kindOf}
 use Rattle.runfile.specs.Actions.{Action, step, crash, wake, crashAll, none, action, named}
+use Rattle.runfile.specs.Ups.{idles}
 
--- the numbers of the refusals (R41 to R55)
+-- the numbers of the refusals (R41 to R56)
 abbrev pub numberOf : Refusal → ℕ
 numberOf refusal.Short = 1
 numberOf refusal.Mark = 2
@@ -38,6 +39,7 @@ numberOf refusal.Row = 9
 numberOf refusal.Order = 10
 numberOf refusal.Same = 11
 numberOf refusal.Action = 12
+numberOf refusal.Idle = 16
 numberOf refusal.WordsRoom = 13
 numberOf refusal.LogRoom = 14
 numberOf refusal.AnswersRoom = 15
@@ -147,7 +149,7 @@ firstByte start offends bytes = firstOffender (λ i. start + i) (offendsAt offen
 abbrev pub whole : Bool → Found
 whole t = foundIf t 0
 
--- the table: what each check finds, over the whole file (R41 to R55)
+-- the table: what each check finds, over the whole file (R41 to R56)
 abbrev pub found : Header → List ℕ → Room → Refusal → Found
 found h f room refusal.Short = whole (ltb (length f) leastHead)
 found h f room refusal.Mark = whole (not (marked f))
@@ -161,6 +163,7 @@ found h f room refusal.Row = firstBadField h (strideOf h) f (rowsStart h) (h .ro
 found h f room refusal.Order = firstLaterRow (strideOf h) (rowsStart h) (h .rows) (below (strideOf h) f (rowsStart h))
 found h f room refusal.Same = firstRow (strideOf h) (rowsStart h) (h .rows) (same (strideOf h) f (rowsStart h))
 found h f room refusal.Action = firstByte (scheduleStart h) (λ before. badByte (h .processes)) (scheduleIn h f)
+found h f room refusal.Idle = firstByte (scheduleStart h) idles (scheduleIn h f)
 found h f room refusal.WordsRoom = whole (ltb (room .words) (h .words))
 found h f room refusal.LogRoom = whole (ltb (room .log) (5 * h .steps))
 found h f room refusal.AnswersRoom = whole (ltb (room .answers) (5 * h .steps))
@@ -189,8 +192,12 @@ roomChecks = refusal.WordsRoom ∷ refusal.LogRoom ∷ refusal.AnswersRoom ∷ [
 abbrev pub fileChecks : List Refusal
 fileChecks = refusal.Short ∷ (headChecks ++ bodyChecks)
 
+-- what is checked behind 12: 16 goes before 13 (R32)
+abbrev pub laterChecks : List Refusal
+laterChecks = refusal.Idle ∷ roomChecks
+
 abbrev pub inOrder : List Refusal
-inOrder = fileChecks ++ roomChecks
+inOrder = fileChecks ++ laterChecks
 
 -- a check's place in that list, from 0
 abbrev pub placeOf : Refusal → ℕ
@@ -206,9 +213,10 @@ placeOf refusal.Row = 8
 placeOf refusal.Order = 9
 placeOf refusal.Same = 10
 placeOf refusal.Action = 11
-placeOf refusal.WordsRoom = 12
-placeOf refusal.LogRoom = 13
-placeOf refusal.AnswersRoom = 14
+placeOf refusal.Idle = 12
+placeOf refusal.WordsRoom = 13
+placeOf refusal.LogRoom = 14
+placeOf refusal.AnswersRoom = 15
 
 -- the whole answer (R30)
 unfoldable pub refusalOf : List ℕ → Room → Checked

@@ -1,8 +1,9 @@
--- The table of refusals in propositions, line by line (R41 to R55). `Given h f room why at` says when a refusal is given, and at which place:
+-- The table of refusals in propositions, line by line (R41 to R56). `Given h f room why at` says when a refusal is given, and at which place:
 -- h is the file's header, f its bytes, room the lengths of the three buffers.
 use Prim.Native.Nat.{ℕ, _+_, _*_, _-_, _/_, _%_, _≤_, _<_}
 use mathlib.Core.Path.{_≡_}
 use mathlib.Core.Logic.{_⊎_}
+use mathlib.Core.Bool.{true, false}
 use mathlib.Core.List.{List}
 use lib.ListN.{getD, length, take}
 use Rattle.runfile.specs.declared.Header.{Header}
@@ -17,6 +18,8 @@ use Rattle.runfile.specs.declared.Refusal.the-variants as refusal
 use Rattle.runfile.specs.Format.{offsetOf}
 use Rattle.runfile.specs.Layout.{byteAt, rowsStart, strideOf, rowPlace, rowIn, zeroByteAt, scheduleStart, scheduleIn, lengthGiven}
 use Rattle.runfile.specs.Kinds.{kindOf}
+use Rattle.runfile.specs.Actions.{crash, wake, action, named}
+use Rattle.runfile.specs.Ups.{isUp}
 use Rattle.runfile.specs.Refusals.{placeOf}
 
 -- 2: the mark is `SWR` (R3)
@@ -59,6 +62,11 @@ pub data BadByte (processes byte : ℕ) : Type 0 where
   no-action : 3 ≤ byte / 16 → (byte / 16 ≡ 15 → ⊥) → BadByte processes byte
   no-process : byte / 16 < 3 → processes ≤ byte % 16 → BadByte processes byte
   low-bits : byte / 16 ≡ 15 → (byte % 16 ≡ 0 → ⊥) → BadByte processes byte
+
+-- 16: after the bytes before it, a byte is a crash of one that is down or a wake of one that is up (R56)
+pub data IdleByte (before : List ℕ) (byte : ℕ) : Type 0 where
+  crash-of-down : action byte ≡ crash → isUp before (named byte) ≡ false → IdleByte before byte
+  wake-of-up : action byte ≡ wake → isUp before (named byte) ≡ true → IdleByte before byte
 
 -- of the n numbers from `from` on, the first that is bad, and its place (R33)
 pub record First (from n : ℕ) (place : ℕ → ℕ) (Bad : ℕ → Type 0) (at : ℕ) : Type 0 where
@@ -103,7 +111,7 @@ pub record FirstBadField (h : Header) (f : List ℕ) (at : ℕ) : Type 0 where
   pub no-field-before : (x : Field) → offsetOf (strideOf h) x < offsetOf (strideOf h) field → BadIn h f row x → ⊥
   pub here : at ≡ rowPlace (strideOf h) (rowsStart h) row + offsetOf (strideOf h) field
 
--- the table, a line for each refusal (R41 to R55)
+-- the table, a line for each refusal (R41 to R56)
 abbrev pub Given : Header → List ℕ → Room → Refusal → ℕ → Type 0
 Given h f room refusal.Short at = (length f < 11) × (at ≡ 0)
 Given h f room refusal.Mark at = (Marked f → ⊥) × (at ≡ 0)
@@ -117,6 +125,7 @@ Given h f room refusal.Row at = FirstBadField h f at
 Given h f room refusal.Order at = FirstLaterRow h (λ k. rowOf h f k .process < rowOf h f (k - 1) .process) at
 Given h f room refusal.Same at = FirstRow h (λ k. SameFields (rowOf h f k)) at
 Given h f room refusal.Action at = FirstByte h f (λ before byte. BadByte (h .processes) byte) at
+Given h f room refusal.Idle at = FirstByte h f IdleByte at
 Given h f room refusal.WordsRoom at = (room .words < h .words) × (at ≡ 0)
 Given h f room refusal.LogRoom at = (room .log < 5 * h .steps) × (at ≡ 0)
 Given h f room refusal.AnswersRoom at = (room .answers < 5 * h .steps) × (at ≡ 0)

@@ -7,7 +7,7 @@ use mathlib.Core.List.{List, [], _∷_}
 use native.Mathlib.Omega.{arith}
 use native.Mathlib.Nat.{zero-mul, suc-mul}
 use lib.Dec.{leb, ltb, eqb}
-use lib.ListN.{getD, length}
+use lib.ListN.{getD, length, take}
 use borrow.Author.Tests.{eqb-true, eqb-false, eq-eqb, ne-eqb, le-ltb}
 use Rattle.runfile.specs.declared.Header.{Header}
 use Rattle.runfile.specs.declared.Row.{Row}
@@ -25,7 +25,8 @@ use Rattle.runfile.specs.Layout.{marked, headerIn, rowsStart, strideOf, 
 use Rattle.runfile.specs.Fields.{fields, fieldAt}
 use Rattle.runfile.specs.Kinds.{kindOf}
 use Rattle.runfile.specs.Operations.{wordsOf, rowsFrom, tableOf}
-use Rattle.runfile.specs.Refusals.{unknownVersion, outOfRange, badKind, zeroOld, zeroNew, badNumber, badField, badIn, sameFields, same, below, badByte, orLater, firstFound, foundIf, badFieldIn, firstBadField, firstRow, firstLaterRow, firstByte, whole, found, orElse, firstOf, inOrder, refusalOf}
+use Rattle.runfile.specs.Ups.{idles}
+use Rattle.runfile.specs.Refusals.{unknownVersion, outOfRange, badKind, zeroOld, zeroNew, badNumber, badField, badIn, sameFields, same, below, badByte, offendsAt, orLater, firstFound, foundIf, badFieldIn, firstBadField, firstRow, firstLaterRow, firstByte, whole, found, orElse, firstOf, inOrder, refusalOf}
 use Rattle.runfile.specs.Table.{rowOf, zeroByteOf}
 
 -- f is a file of version 1, and g the same in version 2: the same mark and counts, the words as they are read, the rows and the schedule;
@@ -69,7 +70,7 @@ pub record SameByte (a b : Header) (p q : ℕ) : Type 0 where
 abbrev pub BothWhole : ℕ → ℕ → Type 0
 BothWhole p q = (p ≡ 0) × (q ≡ 0)
 
--- how the places of a refusal go together, by the refusal (R41 to R55)
+-- how the places of a refusal go together, by the refusal (R41 to R56)
 abbrev pub SamePlace : Header → Header → Refusal → ℕ → ℕ → Type 0
 SamePlace a b refusal.Short p q = BothWhole p q
 SamePlace a b refusal.Mark p q = BothWhole p q
@@ -83,6 +84,7 @@ SamePlace a b refusal.Row p q = SameField a b p q
 SamePlace a b refusal.Order p q = SameRow a b p q
 SamePlace a b refusal.Same p q = SameRow a b p q
 SamePlace a b refusal.Action p q = SameByte a b p q
+SamePlace a b refusal.Idle p q = SameByte a b p q
 SamePlace a b refusal.WordsRoom p q = BothWhole p q
 SamePlace a b refusal.LogRoom p q = BothWhole p q
 SamePlace a b refusal.AnswersRoom p q = BothWhole p q
@@ -206,11 +208,13 @@ module _ (f g : List ℕ) (t : Transcribes f g) where
       (ap sameFields (t .row k (omega arith)))
       (record { which = k; within = omega arith; here = refl; there = refl }))
 
-  bytes-alike : FoundAlike (SameByte a b) (firstByte (scheduleStart a) (λ before. badByte (a .processes)) (scheduleIn a f)) (firstByte (scheduleStart b) (λ before. badByte (b .processes)) (scheduleIn b g))
+  -- for any two tests that come out alike, of a byte after those before it
+  bytes-alike : (test wide : List ℕ → ℕ → Bool) → ((before : List ℕ) (byte : ℕ) → test before byte ≡ wide before byte)
+      → FoundAlike (SameByte a b) (firstByte (scheduleStart a) test (scheduleIn a f)) (firstByte (scheduleStart b) wide (scheduleIn b g))
   unfolding firstByte
-  bytes-alike = searches-alike (SameByte a b) _ _ 0 (length (scheduleIn a f)) (length (scheduleIn b g)) (ap length (t .schedule)) (λ i c d.
-      one-alike (SameByte a b) (badByte (a .processes) (getD (scheduleIn a f) i 0)) (badByte (b .processes) (getD (scheduleIn b g) i 0)) _ _
-      (ap₂ badByte (t .processes) (ap (λ l. getD l i 0) (t .schedule)))
+  bytes-alike test wide alike = searches-alike (SameByte a b) _ _ 0 (length (scheduleIn a f)) (length (scheduleIn b g)) (ap length (t .schedule)) (λ i c d.
+      one-alike (SameByte a b) (offendsAt test (scheduleIn a f) i) (offendsAt wide (scheduleIn b g) i) _ _
+      (alike (take i (scheduleIn a f)) (getD (scheduleIn a f) i 0) ∙ ap (λ l. offendsAt wide l i) (t .schedule))
       (record { which = i; here = refl; there = refl }))
 
   finds-alike : (room : Room) (why : Refusal) → FoundAlike (SamePlace a b why) (found a f room why) (found b g room why)
@@ -225,7 +229,8 @@ module _ (f g : List ℕ) (t : Transcribes f g) where
   finds-alike room refusal.Row = fields-alike
   finds-alike room refusal.Order = order-alike
   finds-alike room refusal.Same = same-alike
-  finds-alike room refusal.Action = bytes-alike
+  finds-alike room refusal.Action = bytes-alike (λ before. badByte (a .processes)) (λ before. badByte (b .processes)) (λ before byte. ap (λ n. badByte n byte) (t .processes))
+  finds-alike room refusal.Idle = bytes-alike idles idles (λ before byte. refl)
   finds-alike room refusal.WordsRoom = whole-alike _ _ (ap (ltb (room .words)) (t .words))
   finds-alike room refusal.LogRoom = whole-alike _ _ (ap (λ n. ltb (room .log) (5 * n)) (t .steps))
   finds-alike room refusal.AnswersRoom = whole-alike _ _ (ap (λ n. ltb (room .answers) (5 * n)) (t .steps))

@@ -12,8 +12,10 @@ pub use kinds::kind_of;
 use offends::first_bad_byte;
 use offends::first_bad_field;
 use offends::first_below;
+use offends::first_idle;
 use offends::first_same;
 pub use offends::is_bad_byte;
+pub use offends::is_idle;
 use read::has_mark;
 use read::header_of;
 pub use read::header_or_zeros;
@@ -97,6 +99,7 @@ pub enum Refusal {
     Order,
     Same,
     Action,
+    Idle,
     WordsRoom,
     LogRoom,
     AnswersRoom,
@@ -114,7 +117,7 @@ pub enum Checked {
     Refused(Refusal, usize),
 }
 
-// The number of a refusal (R41 to R55).
+// The number of a refusal (R41 to R56).
 pub fn refusal_number(why: Refusal) -> u32
     ensures { λ r. ⌜ Numbers why r ⌝ }
 {
@@ -131,6 +134,7 @@ pub fn refusal_number(why: Refusal) -> u32
         Refusal::Order => 10,
         Refusal::Same => 11,
         Refusal::Action => 12,
+        Refusal::Idle => 16,
         Refusal::WordsRoom => 13,
         Refusal::LogRoom => 14,
         Refusal::AnswersRoom => 15,
@@ -221,7 +225,7 @@ fn check_body(file: &[u8], header: Header) -> Checked
     Checked::Accepted(header)
 }
 
-// Refusals 1 to 12: all that the file alone decides, for any bytes (R41 to R52).
+// Refusals 1 to 12, for any bytes (R41 to R52): on the panel, 16 is not asked of the file's own schedule (R221).
 pub fn check_file(file: &[u8]) -> Checked
     ensures { λ r. ⌜ DecidesFile (now (file .entry)) r ⌝ }
 {
@@ -261,5 +265,9 @@ pub fn check(file: &[u8], room: Room) -> Checked
     let Checked::Accepted(header) = checked else {
         return checked;
     };
+    let start = schedule_start(header);
+    if let Found::At(place) = first_idle(&file[start..], start) {
+        return Checked::Refused(Refusal::Idle, place);
+    }
     check_room(header, room)
 }

@@ -1,4 +1,4 @@
-// Who offends: the test of one field, row or byte, and the search for the first that fails it (refusals 9 to 12, R49 to R52).
+// Who offends: the test of one field, row or byte, and the search for the first that fails it (refusals 9 to 12, R49 to R52, and 16, R56).
 use super::Field;
 use super::Found;
 use super::Header;
@@ -6,13 +6,15 @@ use super::Kind;
 use super::format::new_place;
 use super::format::offset_of;
 use super::kinds::kind_numbered;
+use super::read::index8;
 use super::read::number_at;
 ghost use mathlib.Core.Path.{_≡_};
 ghost use Prim.Native.Nat.{_+_, _≤_, _<_};
 ghost use lib.ListN.{length};
 ghost use Rattle.runfile.specs.Format.{numberSize, RowSize, longestOfAll};
 ghost use Rattle.runfile.specs.Layout.{numberAt, rowAt, rowPlace, zeroByteAt};
-ghost use Rattle.runfile.specs.Promises.{ByteJudged};
+ghost use Rattle.runfile.specs.Promises.{ByteJudged, IdleJudged};
+ghost use Rattle.runfile.specs.Ups.{idles};
 ghost use Rattle.runfile.specs.Refusals.{badKind, zeroOld, zeroNew, badNumber, badField, sameFields, badByte, below, same, firstBadField, firstRow, firstLaterRow, firstByte};
 
 // The order in which a row's fields are looked at: that of the file (R36).
@@ -116,6 +118,18 @@ pub fn is_bad_byte(byte: u8, processes: u8) -> bool
     }
 }
 
+// Refusal 16, of one byte (R56): a crash of a process that is down and a wake of one that is up; never a step, and never a crash of all.
+pub fn is_idle(byte: u8, up: bool) -> bool
+    ensures { λ r. ⌜ IdleJudged byte up r ⌝ }
+{
+    match byte / 16 {
+        0 => false,
+        1 => !up,
+        2 => up,
+        _ => false,
+    }
+}
+
 // Refusal 9: of the rows that begin at `start`, the place of the first fault; it leaves both loops (R36, R305).
 pub fn first_bad_field(
     file: &[u8],
@@ -189,6 +203,41 @@ pub fn first_bad_byte(schedule: &[u8], start: usize, processes: u8) -> Found
             return Found::At(start + i);
         }
         i += 1;
+    }
+    Found::Nowhere
+}
+
+// Refusal 16: the first byte that is idle (R56). At first all are up. A byte names a process by four bits (R71), so sixteen entries serve every byte,
+// also one that names no process of the file; in `check` there is none, since 12 has gone before.
+pub fn first_idle(schedule: &[u8], start: usize) -> Found
+    requires { ⌜ start + length (now schedule) ≤ longestOfAll ⌝ }
+    ensures { λ r. ⌜ r ≡ firstByte start idles (now (schedule .entry)) ⌝ }
+{
+    let mut up = [true; 16];
+    let mut i = 0;
+    while i < schedule.len() {
+        let byte = schedule[i];
+        let here = i;
+        i += 1;
+        // A step brings nobody up or down and is never idle, so it costs this one comparison.
+        if byte >= 16 {
+            let p = index8(byte % 16);
+            if is_idle(byte, up[p]) {
+                return Found::At(start + here);
+            }
+            match byte / 16 {
+                1 => {
+                    up[p] = false;
+                }
+                2 => {
+                    up[p] = true;
+                }
+                15 => {
+                    up = [false; 16];
+                }
+                _ => {}
+            }
+        }
     }
     Found::Nowhere
 }

@@ -32,7 +32,7 @@ begins s = s .before .before .before .before .before .before .before .before .be
 load-words-requires : tie.Need-load-words-requires
 load-words-requires c κs = let s = begins (c .before) in
     let a = s .args in
-    let e = s .pre .1 .head .exact in
+    let e = s .pre .1 .file .head .exact in
     subst (λ (n : ℕ). wordPlace (a .header .version) n ≤ length (now (a .file))) (sym (s .pre .0)) (omega arith)
 
 run-bytes-requires : tie.Need-run-bytes-requires

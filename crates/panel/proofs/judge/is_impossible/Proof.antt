@@ -1,5 +1,5 @@
 -- `is_impossible` meets its contract: a record that is not misplaced has no row open, and then its kind makes no difference, or one of the table.
-use Prim.Native.Nat.{ℕ, _+_, _*_, _≤_, _<_}
+use Prim.Native.Nat.{ℕ, _+_, _≤_, _<_}
 use mathlib.Core.Path.{_≡_, refl, sym, subst, _∙_, ap}
 use mathlib.Core.Bool.{Bool, true, false, not, _||_, true≢false}
 use native.Mathlib.Omega.{arith}
