@@ -1,0 +1,4 @@
+pub mod Scanning
+pub mod Counting
+pub mod Putting
+pub mod Answers

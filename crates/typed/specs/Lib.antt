@@ -1,0 +1,15 @@
+pub mod Chars
+pub mod Reading
+pub mod Places
+pub mod Writing
+pub mod Promises
+pub mod Spots
+pub mod Offences
+pub mod Exactly
+pub mod PlaceLaws
+pub mod Comments
+pub mod Editor
+pub mod Told
+pub mod Runs
+pub mod Says
+pub mod Instances
