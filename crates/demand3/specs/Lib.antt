@@ -4,6 +4,7 @@ pub mod Invariant
 pub mod Frames
 pub mod Effects
 pub mod Plans
+pub mod Planned
 pub mod Answers
 pub mod Own
 pub mod Preserve
@@ -22,6 +23,7 @@ pub mod File
 pub mod Absent
 pub mod Sum
 pub mod Marks
+pub mod Rule
 pub mod Wrong
 pub mod Capture
 pub mod Announce

@@ -1,17 +1,17 @@
 -- Advances, run: short schedules, by computation. And that refusal 11 is needed of an advance, too (R51): with amount 0 the machine itself breaks
 -- demand 3, and exactly where an old like new would, at the lost compare, whose false has no place in the log. Two workers move one mark, worker 0
 -- by 5 and worker 1 by 3; the mark starts at 7.
-use Prim.Native.Nat.{ℕ, zero, suc, _+_, _-_, _%_, _^_, _≤_, _<_}
+use Prim.Native.Nat.{ℕ, zero, suc, _+_, _-_, _%_, _^_, _<_}
 use mathlib.Core.Path.{_≡_, refl, ap}
 use mathlib.Core.Bool.{Bool, true, false}
 use mathlib.Core.List.{List, [], _∷_, _++_, map}
 use native.Mathlib.Omega.{arith}
-use lib.Dec.{lit<}
 use lib.ListN.{getD, replicate}
 use Rattle.runfile.specs.declared.Row.{Row}
 use Rattle.runfile.specs.declared.Kind.the-variants.{Compare, Advance}
 use Rattle.runfile.specs.Operations.{rowNumbered, first, count, names}
 use Rattle.runfile.specs.Kinds.{kindOf}
+use Rattle.runfile.specs.Refusals.{sameFields}
 use Rattle.word.specs.Word.{width, value, bit, valueIn, bitIn, swappedIn, bitOf, turnOf, flipsIn}
 use Rattle.word.specs.Laws.{value-fits}
 use Rattle.rows.specs.declared.Entry.{Entry}
@@ -21,11 +21,11 @@ use Rattle.machine.specs.Steps.{spoken, triedIn, storingIn, decideIn, stepTurnI
 use Rattle.machine.specs.Machine.{State, applied, apply, procAt, turnIn, actIn, stepIn, after, afterIn, begin}
 use Rattle.replay.specs.Plain.{answerOf, leaves}
 use Rattle.replay.specs.Lists.{many}
-use Rattle.replay.specs.Replay.{Good, good-row}
 use Rattle.replay.specs.Sum.{added}
 use Rattle.demand3.specs.Statement.{through, Meets}
 use Rattle.demand3.specs.FlipBit.{flipBit, roundCount, isRival, rivals, OfFlipBit}
 use Rattle.demand3.specs.Plans.{Plan}
+use Rattle.demand3.specs.Planned.{passes, allPass, planned}
 use Rattle.demand3.specs.Demand.{demand3}
 use Rattle.demand3.specs.Sum.{mark-of-rows}
 
@@ -154,25 +154,8 @@ zero-breaks d = let z : _≡_ {A = ℕ} 0 1 = ap (λ d. d .verdict) (d .replayed
 
 -- the premises can be met: the two rows pass the refusals, so demand 3 holds of every schedule, and the mark is 7 and what was added
 pub plan : Plan 2 1 two
-unfolding two rowNumbered
-plan = record { some-word = omega arith; good = good; present = present; order = order }
-  where
-    row : (process amount : ℕ) → amount < 2 ^ width → (amount ≡ 0 → ⊥) → Good 1 (advance process amount)
-    row process amount small some = good-row 1 (advance process amount) (omega arith) small some
-
-    good : (k : ℕ) → k < 2 → Good 1 (rowNumbered two k)
-    good zero l = row 0 5 (lit< tt) (λ e. omega arith)
-    good (suc zero) l = row 1 3 (lit< tt) (λ e. omega arith)
-    good (suc (suc k)) l = absurd (omega arith)
-
-    present : (k : ℕ) → k < 2 → rowNumbered two k .process < 2
-    present zero l = omega arith
-    present (suc zero) l = omega arith
-    present (suc (suc k)) l = absurd (omega arith)
-
-    order : (k : ℕ) → suc k < 2 → rowNumbered two k .process ≤ rowNumbered two (suc k) .process
-    order zero l = omega arith
-    order (suc k) l = absurd (omega arith)
+unfolding two passes allPass sameFields
+plan = planned 2 1 two (omega arith) refl
 
 pub every-schedule : (schedule : List ℕ) → let end = after two 0 schedule (begin 2 (7 ∷ [])) in OfFlipBit two 2 (7 ∷ []) schedule (end .log) (end .answers) (map value (end .words))
 every-schedule schedule = demand3 two (7 ∷ []) 2 plan schedule

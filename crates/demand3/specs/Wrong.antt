@@ -6,11 +6,10 @@ use mathlib.Core.Bool.{cond, false}
 use mathlib.Core.List.{List, [], _∷_, _++_}
 use native.Mathlib.Omega.{arith}
 use lib.Dec.{eqb}
-use lib.ListN.{getD, replicate}
+use lib.ListN.{replicate}
 use Rattle.runfile.specs.declared.Row.{Row}
 use Rattle.runfile.specs.Operations.{rowNumbered, first, count, names}
 use Rattle.runfile.specs.Kinds.{kindOf}
-use Rattle.runfile.specs.Actions.{Action, step as steps, crash as crashes, wake as wakes, crashAll as crashesAll, none as idles, action, named}
 use Rattle.rows.specs.declared.Entry.{Entry}
 use Rattle.word.specs.Word.{value, valueIn, bitIn, swappedIn, bitOf, turnOf, flipsIn}
 use Rattle.rows.specs.Entries.{isSwapped}
@@ -25,44 +24,25 @@ use Rattle.machine.specs.declared.Status.{Status}
 use Rattle.machine.specs.declared.Status.the-variants.{Down, Idle, N2, N3, Busy}
 use Rattle.machine.specs.Turn.{Turn, Still, Quiet, Swaps, Logs, Loses, Replies}
 use Rattle.machine.specs.Stages.{stageNumber}
-use Rattle.machine.specs.Records.{with-status, with-checkpoint, with-stored, started, rowOpen}
-use Rattle.machine.specs.Steps.{spoken, swapSays, triedIn, storingIn, decideIn, stepTurn, stepTurnIn}
-use Rattle.machine.specs.Machine.{State, Move, moveOf, applied, apply, procAt, turnIn, actIn, step, stepIn, after, afterIn, begin}
+use Rattle.machine.specs.Records.{with-status, with-checkpoint, with-stored, started}
+use Rattle.machine.specs.Steps.{spoken, swapSays, triedIn, storingIn, decideIn, stepTurnIn}
+use Rattle.machine.specs.Machine.{State, applied, apply, procAt, turnIn, actIn, stepIn, afterIn, begin}
 use Rattle.replay.specs.Plain.{answerOf, leaves}
 use Rattle.demand3.specs.Statement.{Firmware, of, Once, Logged, ownerOf, through, Ended, stateAfter, endState, Meets}
 use Rattle.demand3.specs.FlipBit.{machineOf}
+use Rattle.demand3.specs.Rule.{turnBy, actBy, stepBy}
 use Rattle.machine.specs.Laws.{closed-open}
 
--- A machine whose steps come to something else: `rule` changes what a step of a process on a row comes to, the row's word being `now` and
--- `next` the row that the process is to begin next.
-module _ (rule : Row → (now next : ℕ) → Process → Turn → Turn) (rows : List Row) where
-  pub turnBy : (p t : ℕ) → State → Process → Move
-  turnBy p t s r =
-      let k = rowOpen (r .opened) in
-      let row = rowNumbered rows k in
-      let now = getD (s .words) (row .word) 0 in
-      moveOf rows (s .log) p t k (row .word) r (rule row now (first rows p + r .begun) r (stepTurn row p t now (first rows p) (count rows p) r (r .status)))
-
-  pub actBy : (t byte : ℕ) → Action → State → State
-  actBy t byte steps s = applied (named byte) (turnBy (named byte) t s (procAt (named byte) s)) s
-  actBy t byte crashes s = step rows t byte s
-  actBy t byte wakes s = step rows t byte s
-  actBy t byte crashesAll s = step rows t byte s
-  actBy t byte idles s = step rows t byte s
-
-  pub stepBy : (t byte : ℕ) → State → State
-  stepBy t byte s = actBy t byte (action byte) s
-
-  -- that machine, for P processes and these start words
-  abbrev pub wrong : ℕ → List ℕ → Firmware
-  wrong P words = machineOf stepBy P words
+-- the bench machine with this rule, which asks nothing of the log, for these rows, P processes and these start words
+abbrev pub wrong : (Row → (now next : ℕ) → Process → Turn → Turn) → List Row → ℕ → List ℕ → Firmware
+wrong rule rows P words = machineOf (stepBy (λ log. rule) rows) P words
 
 -- a row that compares and swaps on word 0
 pub swap : (process old new : ℕ) → Row
 swap p old new = record { process = p; kind = 1; word = 0; old = old; new = new }
 
 -- 1. Recovery that goes by whether the value is new (R280), in place of the own flip bit and the kept bit (R123)
-pub recovering : Row → ℕ → Process → Status → Turn → Turn
+unfoldable pub recovering : Row → ℕ → Process → Status → Turn → Turn
 recovering row now r Down u = u
 recovering row now r Idle u = u
 recovering row now r N2 u = u
@@ -70,7 +50,7 @@ recovering row now r N3 u = u
 recovering row now r (Busy stage seen readAt triedAt answer) u =
     cond (eqb (stageNumber stage) 8) (Quiet (with-status (Busy (cond (eqb (value now) (row .new)) V4 V6) now readAt triedAt answer) r)) u
 
-pub byValue : Row → (now next : ℕ) → Process → Turn → Turn
+unfoldable pub byValue : Row → (now next : ℕ) → Process → Turn → Turn
 byValue row now next r u = recovering row now r (r .status) u
 
 -- two workers, 7 to 8; worker 0 is cut off before its swap, worker 1 makes it, and worker 0 takes it for its own
@@ -108,7 +88,7 @@ unfolding captured captureRows captureSchedule swap byValue recovering turnBy ac
 not-logged = refl
 
 -- whatever was told true, by a machine that has nothing of it in its log
-told-alone : (p k : ℕ) (e : Entry) (log answers : List Entry) → of k answers ≡ e ∷ [] → e .verdict ≡ 1 → of k log ≡ [] → (m : Maybe) → Once p k m answers → Logged p k m log → ⊥
+pub told-alone : (p k : ℕ) (e : Entry) (log answers : List Entry) → of k answers ≡ e ∷ [] → e .verdict ≡ 1 → of k log ≡ [] → (m : Maybe) → Once p k m answers → Logged p k m log → ⊥
 unfolding spoken
 told-alone p k e log answers told v none None a l =
     let same : e ∷ [] ≡ a .entry ∷ [] = sym told ∙ a .once in
