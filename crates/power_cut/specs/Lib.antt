@@ -1,0 +1,13 @@
+pub mod Statement
+pub mod Stages
+pub mod OneByte
+pub mod Since
+pub mod Dark
+pub mod Through
+pub mod InTurn
+pub mod PowerCut
+pub mod File
+pub mod Told
+pub mod Computed
+pub mod Wrong
+pub mod Instances
