@@ -1,0 +1,16 @@
+pub mod Statement
+pub mod Parts
+pub mod Filters
+pub mod Rows
+pub mod Tables
+pub mod Owners
+pub mod Bytes
+pub mod Sides
+pub mod OneByte
+pub mod Proxies
+pub mod Rest
+pub mod Resting
+pub mod Alone
+pub mod Computed
+pub mod Wrong
+pub mod Instances
