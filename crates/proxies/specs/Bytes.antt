@@ -35,7 +35,7 @@ module _ (split : Split) (x : Proxy) where
       go : (c : Bool) → isAll (action byte) ≡ c → (d : Bool) → owns x (split .processes) (named byte) ≡ d → Q (cond c all (cond d mine others))
       go true e d k = f (is-all (action byte) e)
       go false e true k = g (not-all (action byte) e) k
-      go false e false k = h (not-all (action byte) e, k)
+      go false e false k = h (λ q. absurd (not-all (action byte) e q), k)
 
   pub data Whose (byte : ℕ) : Type 0 where
     everyone : action byte ≡ crashesAll → Whose byte

@@ -1,13 +1,13 @@
--- Whether an input is accepted, and whether two schedules differ only in the other proxy's bytes, computed; so that instances and wrong machines need no
--- more than to be written out.
-use Prim.Native.Nat.{ℕ, zero, suc, _<_}
+-- When a row is on a word of its own proxy, by the numbers. And whether an input is accepted, and whether two schedules differ only in the other proxy's
+-- bytes, computed; so that instances and wrong machines need no more than to be written out.
+use Prim.Native.Nat.{ℕ, zero, suc, _≤_, _<_}
 use mathlib.Core.Path.{_≡_, refl, sym}
-use mathlib.Core.Bool.{Bool, true, false, not, _&&_, _||_, true≢false}
+use mathlib.Core.Bool.{Bool, true, false, cond, not, _&&_, _||_, true≢false}
 use mathlib.Core.List.{List, [], _∷_}
 use native.Mathlib.Omega.{arith}
-use lib.Dec.{eqb}
+use lib.Dec.{eqb, ltb}
 use lib.ListN.{length}
-use borrow.Author.Tests.{eqb-true, not-true}
+use borrow.Author.Tests.{eqb-true, ltb-true, ltb-false, lt-ltb, le-ltb, not-true}
 use Rattle.runfile.specs.declared.Row.{Row}
 use Rattle.runfile.specs.Actions.{action, named}
 use Rattle.runfile.specs.Operations.{rowNumbered}
@@ -15,6 +15,15 @@ use Rattle.replay.specs.Replay.{both-true-0, both-true-1}
 use Rattle.demand3.specs.Planned.{allPass, planned}
 use Rattle.proxies.specs.Statement.{Proxy, one, two, Split, proxyOf, isProxy, owns, Input, Paired, Replaced, same, other, OnOwnWord, Accepted, OtherByte}
 use Rattle.proxies.specs.Bytes.{isAll, not-all}
+
+-- refusal 17 is not given for a row of proxy one on a word of proxy one, nor for one of proxy two on a word of proxy two
+pub on-own-word : (split : Split) (row : Row) → (row .process < split .processes → row .word < split .words) → (split .processes ≤ row .process → split .words ≤ row .word) → OnOwnWord split row
+unfolding proxyOf
+on-own-word split row first rest = go (ltb (row .process) (split .processes)) refl
+  where
+    go : (c : Bool) → ltb (row .process) (split .processes) ≡ c → cond (ltb (row .word) (split .words)) one two ≡ cond c one two
+    go true e = rw (lt-ltb (row .word) (split .words) (first (ltb-true (row .process) (split .processes) e)))
+    go false e = rw (le-ltb (row .word) (split .words) (rest (ltb-false (row .process) (split .processes) e)))
 
 module _ (split : Split) where
   -- each row is on a word of its own proxy

@@ -9,8 +9,7 @@ use lib.Dec.{ltb}
 use lib.ListN.{getD, set, take, drop}
 use lib.Seq.{take-set-le, take-set-lt, drop-set-lt, drop-set-add, getD-take, getD-drop}
 use borrow.Author.Tests.{ltb-true, ltb-false, lt-ltb, le-ltb, not-true, not-false}
-use Rattle.runfile.specs.declared.Row.{Row}
-use Rattle.proxies.specs.Statement.{Proxy, one, two, Split, proxyOf, isProxy, owns, part, OnOwnWord}
+use Rattle.proxies.specs.Statement.{Proxy, one, two, proxyOf, isProxy, owns, part}
 
 -- on which side of the split a number of a proxy is
 module _ (n a : ℕ) where
@@ -62,15 +61,6 @@ not-both-own x n a f g = go x (proxyOf n a) f g
     go one two f g = true≢false (sym f)
     go two one f g = true≢false (sym f)
     go two two f g = true≢false (sym g)
-
--- what refusal 17 is not given for, by the two numbers
-pub on-own-word : (split : Split) (row : Row) → (row .process < split .processes → row .word < split .words) → (split .processes ≤ row .process → split .words ≤ row .word) → OnOwnWord split row
-unfolding proxyOf
-on-own-word split row first rest = go (ltb (row .process) (split .processes)) refl
-  where
-    go : (c : Bool) → ltb (row .process) (split .processes) ≡ c → cond (ltb (row .word) (split .words)) one two ≡ cond c one two
-    go true e = rw (lt-ltb (row .word) (split .words) (first (ltb-true (row .process) (split .processes) e)))
-    go false e = rw (le-ltb (row .word) (split .words) (rest (ltb-false (row .process) (split .processes) e)))
 
 -- a number of the other proxy is no number of this one
 pub apart : (x : Proxy) (n a b : ℕ) → owns x n a ≡ false → owns x n b ≡ true → a ≡ b → ⊥
