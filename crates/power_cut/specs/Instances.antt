@@ -1,5 +1,5 @@
--- The claim at two cuts of bench case f, which `docs/POWER-CUT.md` works out, and at two advances. By computation: what is told, in which order whatever
--- the bytes come; and the premises can be met, so that the claim holds of these cuts.
+-- The claim at two cuts of bench case f, which `docs/POWER-CUT.md` works out, and at two advances: what is told, in whichever order the bytes come, by
+-- computation. The premises can be met, so the claim holds of these cuts.
 use Prim.Native.Nat.{ℕ}
 use mathlib.Core.Path.{_≡_, refl}
 use mathlib.Core.Bool.{true}
