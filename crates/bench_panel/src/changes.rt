@@ -5,7 +5,7 @@ use lines::{put, put_name, put_number};
 use machine::Process;
 
 // A key's byte, and the bench before it and after it.
-#[derive(Drop)]
+#[derive(Clone, Copy)]
 pub struct Change {
     pub byte: u8,
     pub before: Bench,

@@ -3,6 +3,8 @@
 //
 // The records stand in a list of the program's own, and are lent to `panel::key` for one byte, which is proved against the
 // machine's own step. Nothing is stepped here; what changed is read off the bench before the key and the bench after it.
+#![tactic(auto)]
+
 mod changes;
 mod record;
 mod typed;
@@ -20,7 +22,7 @@ use typed::Entry;
 
 // The bench between two keys: the records, the words, the position of the next key, and how many rows stand in the log
 // and in the answers. The rows themselves stand in two buffers that are lent.
-#[derive(Drop)]
+#[derive(Clone, Copy)]
 pub struct Bench {
     pub records: [Process; 16],
     pub words: [u64; 16],
@@ -30,7 +32,7 @@ pub struct Bench {
 }
 
 // The bench after a key, and what the key came to.
-#[derive(Drop)]
+#[derive(Clone, Copy)]
 struct Pressed {
     bench: Bench,
     outcome: Outcome,

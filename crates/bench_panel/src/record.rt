@@ -6,7 +6,7 @@ use lines::{put, put_name, put_number};
 use machine::{Answer, Kept, Maybe, Opened, Process, Stage, Status};
 
 // The letter and the digit of a stage.
-#[derive(Drop)]
+#[derive(Clone, Copy)]
 struct Name(u8, u8);
 
 // A stage's place among those that a line shows: down, idle, N2, N3, and then those of the midst of work.

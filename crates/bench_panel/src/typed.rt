@@ -3,7 +3,7 @@
 // A line is never kept. It is followed byte by byte, so it may be of any length.
 
 // What a line comes to.
-#[derive(Drop)]
+#[derive(Clone, Copy)]
 pub enum Entry {
     Nothing,
     Key(u8),
@@ -11,14 +11,14 @@ pub enum Entry {
 }
 
 // A line of standard input, and whether it was the last.
-#[derive(Drop)]
+#[derive(Clone, Copy)]
 pub struct Typed {
     pub entry: Entry,
     pub is_last: bool,
 }
 
 // A line so far.
-#[derive(Drop)]
+#[derive(Clone, Copy)]
 enum Line {
     // Blanks and nothing else: spaces, tabs and carriage returns.
     Blank,
@@ -31,7 +31,7 @@ enum Line {
 }
 
 // The kinds of characters in a line.
-#[derive(Drop)]
+#[derive(Clone, Copy)]
 enum Character {
     Blank,
     Hash,
@@ -40,7 +40,7 @@ enum Character {
 }
 
 // What comes next on standard input.
-#[derive(Drop)]
+#[derive(Clone, Copy)]
 enum Next {
     Byte(u8),
     End,

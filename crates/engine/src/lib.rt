@@ -1,6 +1,8 @@
 // The engine: a part of a schedule, run over lent buffers. Schedules are run here and nowhere else: each byte as R70 to
 // R173 say, with the small functions of the crate `machine` and, for the log, of `rows`. The whole run is all of the
 // schedule from position 0 and fresh records on (R181); a key of the panel is a part of one byte (R202).
+#![tactic(auto)]
+
 ghost use Rattle.engine.specs.Part.{Runnable, Runs};
 
 use machine::{
@@ -11,7 +13,7 @@ use machine::{
 
 // Where a run stands: the records, of which the first P are processes, the position of the next byte, and how many
 // rows stand in the log and in the answers.
-#[derive(Drop)]
+#[derive(Clone, Copy)]
 pub struct Standing {
     pub processes: [Process; 16],
     pub position: usize,
@@ -21,7 +23,7 @@ pub struct Standing {
 
 // What a part of a schedule is run with, beside what is lent: how many bytes it is from one row of the table to the
 // next, and how many rows it has; how many of the records are processes; and where the run stands.
-#[derive(Drop)]
+#[derive(Clone, Copy)]
 pub struct Part {
     pub stride: usize,
     pub rows: usize,

@@ -1,4 +1,6 @@
 // How a program reads a run file.
+#![tactic(auto)]
+
 ghost use Rattle.input.specs.Promises.{Reads};
 
 // Reads a run file from an open descriptor, and answers how many bytes stand in front. Of a file that is longer than any

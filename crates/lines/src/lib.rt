@@ -2,6 +2,8 @@
 //
 // What is put where is not promised: these functions promise only that nothing goes wrong. What they print is held
 // against an independent program's text by the comparison of `second/`.
+#![tactic(auto)]
+
 mod text;
 
 use run::Outcome;

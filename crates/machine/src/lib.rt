@@ -2,6 +2,8 @@
 //
 // What a byte means stands in specs/Steps and specs/Machine (R70 to R173). Here are the record and the small functions
 // of which a step consists; the crate `engine` runs schedules with them.
+#![tactic(auto)]
+
 mod kinds;
 mod operation;
 mod records;
@@ -15,7 +17,7 @@ pub use recovery::{by_bit, by_checkpoint, recovered_of, reply_of};
 pub use said::entry_of;
 
 // The stages of an operation and of recovery (R82).
-#[derive(Drop)]
+#[derive(Clone, Copy)]
 pub enum Stage {
     A1,
     A2,
@@ -32,7 +34,7 @@ pub enum Stage {
 }
 
 // An answer: of a compare, of a read, and of an advance, which says what the value was before it (R85).
-#[derive(Drop)]
+#[derive(Clone, Copy)]
 pub enum Answer {
     False,
     True,
@@ -41,14 +43,14 @@ pub enum Answer {
 }
 
 // An answer, or none: the stored one, the one to store, and what is returned (none is fail; R85).
-#[derive(Drop)]
+#[derive(Clone, Copy)]
 pub enum Maybe {
     None,
     Is(Answer),
 }
 
 // The open row, by its number in the file.
-#[derive(Drop)]
+#[derive(Clone, Copy)]
 pub enum Opened {
     Closed,
     Open(u16),
@@ -57,7 +59,7 @@ pub enum Opened {
 // All that is volatile stands here, so a crash cannot forget to clear any of it (R83, R300). A row is announced by
 // three stores (R101 to R103): an idle process makes the first, and is then at N2 and at N3, where the others are to
 // be made.
-#[derive(Drop)]
+#[derive(Clone, Copy)]
 pub enum Status {
     Down,
     Idle,
@@ -73,14 +75,14 @@ pub enum Status {
 }
 
 // What A2 keeps in one store: the own flip bit turned round and, of an advance, the value that it read (R84, R112).
-#[derive(Drop)]
+#[derive(Clone, Copy)]
 pub struct Kept {
     pub bit: bool,
     pub value: u32,
 }
 
 // A process: its status, and what is kept through a crash (R84).
-#[derive(Drop)]
+#[derive(Clone, Copy)]
 pub struct Process {
     pub status: Status,
     pub opened: Opened,
@@ -91,7 +93,7 @@ pub struct Process {
 }
 
 // Work in hand, as A5 takes it: the process, its open row, and what it has in the midst of it (R82).
-#[derive(Drop)]
+#[derive(Clone, Copy)]
 pub struct Work {
     pub process: u8,
     pub row: u16,

@@ -2,6 +2,8 @@
 //
 // The work is done by `press`, on a table of sixteen records by value. `key` is thin: it takes the lent records into
 // such a table, presses the key, and gives the records back.
+#![tactic(auto)]
+
 mod judge;
 mod possible;
 mod press;
@@ -16,7 +18,7 @@ use records::{give, held, take};
 use runfile::Header;
 
 // A key as it is struck: the byte, its position, and how many rows stand in the log and in the answers (R201).
-#[derive(Drop)]
+#[derive(Clone, Copy)]
 pub struct Stroke {
     pub byte: u8,
     pub position: usize,
@@ -25,7 +27,7 @@ pub struct Stroke {
 }
 
 // Why a key is refused.
-#[derive(Drop)]
+#[derive(Clone, Copy)]
 pub enum Why {
     // One that a run has too: 1 to 12 are the file's (R221). `WordsRoom` is also a list of records that is too short (R223),
     // `LogRoom` and `AnswersRoom` say that one row more does not fit (R224, R225), and `Idle` is of the key's byte (R226).
@@ -37,28 +39,28 @@ pub enum Why {
 }
 
 // What a key comes to: refused, with the place in the file; or done, with the two row counts after it (R203).
-#[derive(Drop)]
+#[derive(Clone, Copy)]
 pub enum Outcome {
     Went { log: usize, answers: usize },
     Refused(Why, usize),
 }
 
 // Whether a key is carried out, on a file with this header, or refused.
-#[derive(Drop)]
+#[derive(Clone, Copy)]
 pub enum Verdict {
     Fine(Header),
     Not(Why, usize),
 }
 
 // Sixteen records by value, of which the first `held` are the caller's.
-#[derive(Drop)]
+#[derive(Clone, Copy)]
 pub struct Table {
     pub processes: [Process; 16],
     pub held: usize,
 }
 
 // The records of the table after a key, and what the key came to.
-#[derive(Drop)]
+#[derive(Clone, Copy)]
 pub struct After {
     pub processes: [Process; 16],
     pub outcome: Outcome,

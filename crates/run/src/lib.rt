@@ -1,4 +1,6 @@
 // The whole: a run file is refused, and nothing is touched (R34), or it is run (R241).
+#![tactic(auto)]
+
 mod load;
 
 ghost use Rattle.runfile.specs.Lawful.{Lawful};
@@ -12,14 +14,14 @@ pub use load::load_words;
 use runfile::{Checked, Header, Refusal, Room};
 
 // Refused, with the refusal and its place; or run, with the two row counts (R185).
-#[derive(Drop)]
+#[derive(Clone, Copy)]
 pub enum Outcome {
     Refused(Refusal, usize),
     Ran { log: usize, answers: usize },
 }
 
 // How many rows stand in the log and in the answers.
-#[derive(Drop)]
+#[derive(Clone, Copy)]
 pub struct Counts {
     pub log: usize,
     pub answers: usize,

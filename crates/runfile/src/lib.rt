@@ -2,6 +2,8 @@
 //
 // `check` is the one door: every byte string is accepted, with its header by value, or refused by one
 // number and one place. Nothing is asked of its caller. The meaning of every answer stands in specs/Refusals.
+#![tactic(auto)]
+
 mod format;
 mod kinds;
 mod offends;
@@ -28,7 +30,7 @@ pub use shares::{counts_of, firsts_of};
 pub const ENOUGH_BYTES: usize = 7308;
 
 // What the first eleven bytes give, after the mark (R2).
-#[derive(Drop)]
+#[derive(Clone, Copy)]
 pub struct Header {
     pub version: u16,
     pub processes: u8,
@@ -38,7 +40,7 @@ pub struct Header {
 }
 
 // What an operation does: kind 0 reads, kind 1 compares and swaps, kind 2 advances a mark (R11).
-#[derive(Drop)]
+#[derive(Clone, Copy)]
 pub enum Kind {
     Read,
     Compare,
@@ -46,7 +48,7 @@ pub enum Kind {
 }
 
 // An operation, with the number of its kind. Old and new of version 1, of two bytes each, are widened (R10).
-#[derive(Drop)]
+#[derive(Clone, Copy)]
 pub struct Row {
     pub process: u8,
     pub kind: u8,
@@ -56,7 +58,7 @@ pub struct Row {
 }
 
 // The fields of a row as they stand in the file, in their order there (R10).
-#[derive(Drop)]
+#[derive(Clone, Copy)]
 pub enum Field {
     Process,
     Kind,
@@ -67,7 +69,7 @@ pub enum Field {
 }
 
 // How many numbers each of the three lent buffers holds.
-#[derive(Drop)]
+#[derive(Clone, Copy)]
 pub struct Room {
     pub words: usize,
     pub log: usize,
@@ -75,7 +77,7 @@ pub struct Room {
 }
 
 // The refusals in the order of their checks (R32); `refusal_number` gives the numbers.
-#[derive(Drop)]
+#[derive(Clone, Copy)]
 pub enum Refusal {
     Short,
     Mark,
@@ -96,14 +98,14 @@ pub enum Refusal {
 }
 
 // What one check finds: no offender, or the place of the first one.
-#[derive(Drop)]
+#[derive(Clone, Copy)]
 pub enum Found {
     Nowhere,
     At(usize),
 }
 
 // The answer: accepted, with the header, or refused, with the place counted in bytes from 0 (R30, R31).
-#[derive(Drop)]
+#[derive(Clone, Copy)]
 pub enum Checked {
     Accepted(Header),
     Refused(Refusal, usize),

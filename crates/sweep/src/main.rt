@@ -5,6 +5,8 @@
 // answers buffers, and then the bytes of the file. A stream may end only between two records. At a record that is cut
 // off, or that asks for more than the program has, the program says so on standard error and stops; the outcomes of
 // the records before it are out by then. It has no exit status to give.
+#![tactic(auto)]
+
 mod buffers;
 
 use buffers::{fill, fill_words, sum_over, sum_over_words};
@@ -13,7 +15,7 @@ use buffers::{fill, fill_words, sum_over, sum_over_words};
 const FIRST_WORD: u64 = 3235774464 * 4294967296 + 3235774464;
 
 // The four numbers that a record begins with.
-#[derive(Drop)]
+#[derive(Clone, Copy)]
 struct Lengths {
     file: usize,
     words: usize,
@@ -22,7 +24,7 @@ struct Lengths {
 }
 
 // What comes next in the stream.
-#[derive(Drop)]
+#[derive(Clone, Copy)]
 enum Next {
     Record(Lengths),
     Damaged,

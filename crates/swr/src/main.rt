@@ -1,4 +1,5 @@
 // The program: a run file comes in on standard input, and its outcome goes out as lines of text (R190).
+#![tactic(auto)]
 
 // Runs the file and puts the lines of its outcome. The buffers have room for 16 words and 1,024 rows of each kind,
 // the most that a run file may ask for, so a run is never refused for want of room.

@@ -14,6 +14,8 @@
 //
 // Nothing is asked of any caller. What each function answers and leaves stands in specs/Promises, and what that says of
 // a text in specs/Told and specs/Says.
+#![tactic(auto)]
+
 mod chars;
 mod columns;
 mod scan;
@@ -26,7 +28,7 @@ use scan::{Checked, Spot, check, fill, find};
 pub use text::put_bytes;
 
 // What can be wrong with a text; `number_of` gives the numbers.
-#[derive(Drop)]
+#[derive(Clone, Copy)]
 pub enum Slip {
     Stray,
     Alone,
@@ -34,28 +36,28 @@ pub enum Slip {
 }
 
 // Where a character stands.
-#[derive(Drop)]
+#[derive(Clone, Copy)]
 pub struct Place {
     pub line: usize,
     pub column: usize,
 }
 
 // How many bytes were read, or the first slip and where it is.
-#[derive(Drop)]
+#[derive(Clone, Copy)]
 pub enum Typed {
     Bytes(usize),
     Slipped(Slip, Place),
 }
 
 // Where a byte was typed, if the text has that many.
-#[derive(Drop)]
+#[derive(Clone, Copy)]
 pub enum Located {
     Nowhere,
     At(Place),
 }
 
 // The index after what was put, if there was room for it.
-#[derive(Drop)]
+#[derive(Clone, Copy)]
 pub enum Written {
     NoRoom,
     Upto(usize),

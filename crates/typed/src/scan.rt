@@ -10,7 +10,7 @@ use super::Slip;
 use super::chars::{Class, byte_of, class_of};
 
 // Between two bytes; in a comment; or after the first digit of a byte: that digit, and its index.
-#[derive(Drop)]
+#[derive(Clone, Copy)]
 pub enum State {
     Between,
     Comment,
@@ -18,7 +18,7 @@ pub enum State {
 }
 
 // What a character leads to: another state; a byte that is whole, with the index of its first digit; or a slip.
-#[derive(Drop)]
+#[derive(Clone, Copy)]
 pub enum Step {
     To(State),
     Whole(u8, usize),
@@ -26,14 +26,14 @@ pub enum Step {
 }
 
 // The number of bytes, or the first slip and its index.
-#[derive(Drop)]
+#[derive(Clone, Copy)]
 pub enum Checked {
     Good(usize),
     Bad(Slip, usize),
 }
 
 // The index of a byte's first digit, if the text has that many bytes.
-#[derive(Drop)]
+#[derive(Clone, Copy)]
 pub enum Spot {
     Missing,
     Stands(usize),

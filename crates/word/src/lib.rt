@@ -1,4 +1,6 @@
 // A word that survives a crash: a value in its low bits (R14), and above it a flip bit for each process (R15).
+#![tactic(auto)]
+
 ghost use Rattle.std.specs.Prelude.{◌<◌};
 ghost use Rattle.word.specs.Promises.{Valued, HasFlips, Flipped, Swapped, Summed};
 

@@ -16,17 +16,17 @@ room : (w o v n : ℕ) → w < 2 ^ 64 → v ≡ value_in width (bit_xor w (o % 2
 unfolding value_in
 room w o v n h e f = omega (arith, xor_lt 64 w (o % 2 ^ 64) h (omega arith))
 
-sub-result : tie.Need-overflow-sub-result
+sub-result : tie.Need-overflow_sub-result
 unfolding value_in
 sub-result c = search rules
 
-add-result : tie.Need-overflow-add-result
+add-result : tie.Need-overflow_add-result
 unfolding value_in
-add-result c = record { fits = room c.before.args.word _ _ _ (omega arith) c.value_of_lem.ensures (omega arith) }
+add-result c = record { fits = room c.before.args.word _ _ _ (omega arith) c.value_of-value.ensures (omega arith) }
 
 returns : tie.Need-returns
 returns c = let a = c.before.args in
-    put_in width a.process a.word a.new _ c.value_of_lem.result (ap (bit_xor a.word) (own a.process (omega (arith, c.before.requires)))) c.value_of_lem.ensures
+    put_in width a.process a.word a.new _ c.value_of-value.result (ap (bit_xor a.word) (own a.process (omega (arith, c.before.requires)))) c.value_of-value.ensures
 
 pub swapped_of_spec : {M : Type 1} → statement M
 swapped_of_spec =
