@@ -24,7 +24,7 @@ use Rattle.machine.specs.Machine.{State, Effect, Move, move_of, words_after, log
 use Rattle.replay.specs.Replay.{Good}
 use Rattle.demand3.specs.Invariant.{Times, Inv, Allowed}
 use Rattle.demand3.specs.Own.{Own, calm, busy}
-use Rattle.demand3.specs.Preserve.{get_d_map_lt, own_turn, absent}
+use Rattle.demand3.specs.Preserve.{get_or_map_lt, own_turn, absent}
 
 -- What one byte makes of a record: nothing, a step, a crash, a wake.
 module _ (rows : List Row) where
@@ -43,7 +43,7 @@ module _ (rows : List Row) where
   down_either Q l p h g = go (ltb p (length l)) refl
     where
       go : (c : Bool) → ltb p (length l) ≡ c → Q (get_or (map crashed l) p fresh)
-      go true c = subst Q (sym (get_d_map_lt crashed l p fresh fresh (ltb-true p (length l) c))) g
+      go true c = subst Q (sym (get_or_map_lt crashed l p fresh fresh (ltb-true p (length l) c))) g
       go false c =
           subst Q
           (get_or-eq_default l fresh (ltb-false p (length l) c) ∙ sym (get_or-eq_default (map crashed l) fresh (subst (λ n. n ≤ p) (sym (length-map l crashed)) (ltb-false p (length l) c)))) h

@@ -39,10 +39,10 @@ apply_processes (swaps w x e) ps s = refl
 apply_processes (logs e) ps s = refl
 apply_processes (replies e) ps s = refl
 
-pub get_d_map_lt : {A B : Type 0} (f : A → B) (l : List A) (i : ℕ) (d : A) (e : B) → i < length l → get_or (map f l) i e ≡ f (get_or l i d)
-get_d_map_lt f [] i d e h = absurd (omega arith)
-get_d_map_lt f (x ∷ l) zero d e h = refl
-get_d_map_lt f (x ∷ l) (suc i) d e h = get_d_map_lt f l i d e (omega arith)
+pub get_or_map_lt : {A B : Type 0} (f : A → B) (l : List A) (i : ℕ) (d : A) (e : B) → i < length l → get_or (map f l) i e ≡ f (get_or l i d)
+get_or_map_lt f [] i d e h = absurd (omega arith)
+get_or_map_lt f (x ∷ l) zero d e h = refl
+get_or_map_lt f (x ∷ l) (suc i) d e h = get_or_map_lt f l i d e (omega arith)
 
 module _ (rows : List Row) (start : List ℕ) (good : (k : ℕ) → Good (length start) (row_numbered rows k))
     (owner : (p i : ℕ) → i < count rows p → (row_numbered rows (first rows p + i)).process ≡ p)
@@ -142,7 +142,7 @@ module _ (rows : List Row) (start : List ℕ) (good : (k : ℕ) → Good (length
             size = length-map s.processes crashed ∙ v.size;
             global = global_same rows start good Late t (map crashed s.processes) s v.global;
             local = λ q j.
-                subst (λ r. Local rows start Late q (suc t) (apply quiet (map crashed s.processes) s) r) (sym (get_d_map_lt crashed s.processes q fresh fresh (rw v.size j)))
+                subst (λ r. Local rows start Late q (suc t) (apply quiet (map crashed s.processes) s) r) (sym (get_or_map_lt crashed s.processes q fresh fresh (rw v.size j)))
                 (own_status rows start Late q t s (proc_at q s) (v.local q j) Down (map crashed s.processes) tt);
           }
 

@@ -23,7 +23,7 @@ use Rattle.run.specs.Run.{Ends}
 use Rattle.replay.specs.Sum.{added, Advanced, summed, none_compares}
 use Rattle.demand3.specs.Statement.{Firmware, Demand3}
 use Rattle.demand3.specs.FlipBit.{flip_bit}
-use Rattle.demand3.specs.Preserve.{get_d_map_lt}
+use Rattle.demand3.specs.Preserve.{get_or_map_lt}
 use Rattle.demand3.specs.File.{Bytes, demand3_run}
 use Rattle.demand3.specs.Absent.{word_there}
 
@@ -33,7 +33,7 @@ module _ (m : Firmware) (rows : List Row) (schedule : List ℕ) (log answers : L
   at_first = m.value (get_or (m.words m.start) w 0)
 
   first-value : get_or (map m.value (m.words m.start)) w 0 ≡ at_first
-  first-value = get_d_map_lt m.value (m.words m.start) w 0 0 inside
+  first-value = get_or_map_lt m.value (m.words m.start) w 0 0 inside
 
   -- of the log's rows on w only advances tell of a successful swap
   pub mark_is : Advanced rows w log → get_or values w 0 ≡ (at_first + added rows w log) % 2 ^ width

@@ -41,7 +41,7 @@ use Rattle.machine.specs.Stages.{stage_number, stage_at, stage_of, numbered}
 use Rattle.machine.specs.Records.{fresh, nobody, with_status, with_kept, with_checkpoint, with_stored, closed, started, crashed, down_to, woken_up, waked, row_open, WorkOpen}
 use Rattle.machine.specs.Steps.{entry, after_read, kept_by, swap_says, lost_by, tried_in, storing, storing_in, recovered, same_bit, decide, decide_in, step_turn, step_turn_in, working}
 use Rattle.machine.specs.Machine.{State, Effect, quiet, swaps, logs, replies, process_of, effect_of, turn, turn_in, words_after, log_after, answers_after, apply, applied, proc_at, act, act_in, step, step_in, after, after_in}
-use Rattle.machine.specs.Laws.{after_snoc, get_d_either, Sane, sane_idle, sane_after}
+use Rattle.machine.specs.Laws.{after_snoc, get_or_either, Sane, sane_idle, sane_after}
 use Rattle.machine.specs.Promises.{entered, Enters, reply_at}
 use Rattle.engine.specs.Part.{Holds, state_lent, Left}
 
@@ -192,7 +192,7 @@ module _ (rows : List Row) (P : ℕ) (from : Standing) (bytes words log answers 
       go : (c : Bool) → ltb q P ≡ c → Sane rows q (get_or (take P from.processes) q fresh)
       go true e =
           let l : q < P = ltb-true q P e in
-          subst (Sane rows q) (sym (get_or-take P from.processes q fresh l ∙ get_d_either from.processes q fresh nobody (omega arith))) (h q l)
+          subst (Sane rows q) (sym (get_or-take P from.processes q fresh l ∙ get_or_either from.processes q fresh nobody (omega arith))) (h q l)
       go false e =
           let l : P ≤ q = ltb-false q P e in
           subst (Sane rows q) (sym (get_or-eq_default (take P from.processes) fresh (let z = length-take-le P from.processes (omega arith) in omega arith))) (sane_idle rows q)
@@ -295,7 +295,7 @@ module _ {rows : List Row} {P : ℕ} {from : Standing} {bytes words₀ log₀ an
     unfolding proc_at
     mine =
         let l : me < P = one_of low in
-        ap (λ l. get_or l me fresh) (sym h.front) ∙ get_or-take P ps me fresh l ∙ get_d_either ps me fresh nobody (let z = h.size in let f = q.few in omega arith) ∙ ap (λ j. get_or ps j nobody) (sym here)
+        ap (λ l. get_or l me fresh) (sym h.front) ∙ get_or-take P ps me fresh l ∙ get_or_either ps me fresh nobody (let z = h.size in let f = q.few in omega arith) ∙ ap (λ j. get_or ps j nobody) (sym here)
 
     pub sane_mine : ((p : ℕ) → Sane rows p (proc_at p (state_lent P from words₀ log₀ answers₀))) → Sane rows me r
     unfolding state_at

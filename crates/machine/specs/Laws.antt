@@ -100,10 +100,10 @@ turned rows p t words log r = go r.status refl
     go (Busy stage seen read_at tried_at answer) e = work r.opened refl _ _ stage seen read_at tried_at answer
 
 -- a record that is there, whatever stands past the end
-pub get_d_either : (l : List Process) (i : ℕ) (d e : Process) → i < length l → get_or l i d ≡ get_or l i e
-get_d_either [] i d e h = absurd (omega arith)
-get_d_either (x ∷ l) zero d e h = refl
-get_d_either (x ∷ l) (suc i) d e h = get_d_either l i d e (omega arith)
+pub get_or_either : (l : List Process) (i : ℕ) (d e : Process) → i < length l → get_or l i d ≡ get_or l i e
+get_or_either [] i d e h = absurd (omega arith)
+get_or_either (x ∷ l) zero d e h = refl
+get_or_either (x ∷ l) (suc i) d e h = get_or_either l i d e (omega arith)
 
 -- what is done to each element, and then to one
 pub map-set : {A B : Type 0} (f : A → B) (l : List A) (i : ℕ) (x : A) → map f (set l i x) ≡ set (map f l) i (f x)

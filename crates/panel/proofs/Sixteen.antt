@@ -57,9 +57,9 @@ module _ (records over : List Process) (n : ℕ) (fits : n ≤ length records) w
   unfolding laid
   take-laid m h = take-append-le m (take n records) (drop n over) (rw (length-take-le n records fits) h) ∙ take-take m n records h
 
-  get_d_laid : (i : ℕ) (d : Process) → i < n → get_or (laid n records over) i d ≡ get_or records i d
+  get_or_laid : (i : ℕ) (d : Process) → i < n → get_or (laid n records over) i d ≡ get_or records i d
   unfolding laid
-  get_d_laid i d h = get_or-append (take n records) (drop n over) d i (rw (length-take-le n records fits) h) ∙ get_or-take n records i d h
+  get_or_laid i d h = get_or-append (take n records) (drop n over) d i (rw (length-take-le n records fits) h) ∙ get_or-take n records i d h
 
   -- laid back, the table leaves the list as it was, but for a front part that is made another one
   laid-front : (front : List Process) (m : ℕ) → length front ≡ m → m ≤ n → laid n (front ++ drop m (laid n records over)) records ≡ front ++ drop m records
@@ -73,7 +73,7 @@ module _ (records over : List Process) (n : ℕ) (fits : n ≤ length records) w
   any_laid : (rows : List Row) (from m : ℕ) → from + m ≤ n → any_impossible rows (laid n records over) from m ≡ any_impossible rows records from m
   unfolding any_impossible
   any_laid rows from zero h = refl
-  any_laid rows from (suc m) h = rw (get_d_laid from nobody (omega arith), any_laid rows (suc from) m (omega arith))
+  any_laid rows from (suc m) h = rw (get_or_laid from nobody (omega arith), any_laid rows (suc from) m (omega arith))
 
 -- sixteen are enough
 short_alike : (n P : ℕ) → P ≤ 16 → ltb (min n 16) P ≡ ltb n P
@@ -112,7 +112,7 @@ module _ (f : List ℕ) (records : List Process) (words log answers : List ℕ) 
   idle_alike P few e = go (action k.byte) e
     where
       same : leb P (named k.byte) ≡ false → get_or (laid n records blank) (named k.byte) nobody ≡ get_or records (named k.byte) nobody
-      same e = get_d_laid records blank n held (named k.byte) nobody (let i = leb-false P (named k.byte) e in omega arith)
+      same e = get_or_laid records blank n held (named k.byte) nobody (let i = leb-false P (named k.byte) e in omega arith)
 
       go : (a : Action) → bad_action P (named k.byte) a ≡ false → idle_by a (is_awake (get_or (laid n records blank) (named k.byte) nobody).status) ≡ idle_by a (is_awake (get_or records (named k.byte) nobody).status)
       go steps e = refl

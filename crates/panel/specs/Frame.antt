@@ -22,7 +22,7 @@ use Rattle.machine.specs.declared.Process.{Process}
 use Rattle.machine.specs.declared.Status.{Status}
 use Rattle.machine.specs.Turn.{Turn, Still, Quiet, Swaps, Logs, Loses, Replies}
 use Rattle.machine.specs.Records.{fresh, nobody, is_awake, row_open}
-use Rattle.machine.specs.Laws.{get_d_either}
+use Rattle.machine.specs.Laws.{get_or_either}
 use Rattle.machine.specs.Machine.{State, effect_of, words_after, turn, turn_in, apply, applied, proc_at, act, act_in, step, step_in}
 use Rattle.machine.specs.Steps.{step_turn}
 use Rattle.machine.specs.OneByte as one
@@ -101,10 +101,10 @@ module _ (h : Header) (f : List ℕ) (records : List Process) (words log answers
         among i =
             let j : q < length (stepped h f l k).processes = rw all-P i in
             get_or-append (stepped h f l k).processes (drop P records) nobody q j
-            ∙ get_d_either (stepped h f l k).processes q nobody fresh j
+            ∙ get_or_either (stepped h f l k).processes q nobody fresh j
             ∙ one.others (table_of h f) k.position k.byte s not_all q n
             ∙ get_or-take P records q fresh i
-            ∙ get_d_either records q fresh nobody (omega arith)
+            ∙ get_or_either records q fresh nobody (omega arith)
 
         go : (c : Bool) → ltb q P ≡ c → get_or (carried h f l k).processes q nobody ≡ get_or records q nobody
         go true e = among (ltb-true q P e)
@@ -119,7 +119,7 @@ module _ (h : Header) (f : List ℕ) (records : List Process) (words log answers
 
     mine : named k.byte < P → proc_at (named k.byte) s ≡ get_or records (named k.byte) nobody
     unfolding state_of proc_at
-    mine i = get_or-take P records (named k.byte) fresh i ∙ get_d_either records (named k.byte) fresh nobody (omega arith)
+    mine i = get_or-take P records (named k.byte) fresh i ∙ get_or_either records (named k.byte) fresh nobody (omega arith)
 
     other_word : (w : ℕ) → w ≢ (row_numbered (table_of h f) (row_open (get_or records (named k.byte) nobody).opened)).word → get_or (stepped h f l k).words w 0 ≡ get_or words w 0
     unfolding stepped state_of step_in act_in applied apply
@@ -139,7 +139,7 @@ module _ (h : Header) (f : List ℕ) (records : List Process) (words log answers
     unfolding proc_at
     left i =
         let j : named k.byte < length (stepped h f l k).processes = rw all-P i in
-        get_or-append (stepped h f l k).processes (drop P records) nobody (named k.byte) j ∙ get_d_either (stepped h f l k).processes (named k.byte) nobody fresh j
+        get_or-append (stepped h f l k).processes (drop P records) nobody (named k.byte) j ∙ get_or_either (stepped h f l k).processes (named k.byte) nobody fresh j
 
     awake_then : named k.byte < P → is_awake (get_or (carried h f l k).processes (named k.byte) nobody).status ≡ up_as (action k.byte) true (is_awake (get_or records (named k.byte) nobody).status)
     unfolding stepped state_of

@@ -24,7 +24,7 @@ use Rattle.rows.specs.Buffers.{flat, infront}
 use Rattle.rows.specs.BufferLaws.{rows_back, again, length-infront, length-flat}
 use Rattle.machine.specs.declared.Process.{Process}
 use Rattle.machine.specs.Records.{fresh, nobody, is_awake}
-use Rattle.machine.specs.Laws.{after_next, get_d_either}
+use Rattle.machine.specs.Laws.{after_next, get_or_either}
 use Rattle.machine.specs.Machine.{State, proc_at, step, after, after_in, begin}
 use Rattle.run.specs.declared.Outcome.{Outcome as RunOutcome}
 use Rattle.run.specs.declared.Outcome.TheVariants.{Ran}
@@ -157,7 +157,7 @@ module _ (f words log answers : List ℕ) (h : Header) (fine : refusal_of f (roo
     unfolding proc_at
     there p i =
         let j : p < length s.processes = (let a = g.all in omega arith) in
-        get_or-append s.processes (drop P records) nobody p j ∙ get_d_either s.processes p nobody fresh j
+        get_or-append s.processes (drop P records) nobody p j ∙ get_or_either s.processes p nobody fresh j
 
     can_be : any_impossible rows (s.processes ++ drop P records) 0 P ≡ false
     can_be = none_impossible rows (s.processes ++ drop P records) 0 P (λ p i. rw (there p (omega arith)) (lives_possible rows p (proc_at p s) (g.each p)))

@@ -9,13 +9,13 @@ use lib.Seq.{drop-cons}
 use Rattle.runfile.specs.declared.Row.{Row}
 use Rattle.rows.specs.Log.{first_swap, is_swap}
 use Rattle.rows.specs.Buffers.{rows_of, entry_at}
-use Rattle.rows.specs.BufferLaws.{length-rows_of, get_d_rows_of}
+use Rattle.rows.specs.BufferLaws.{length-rows_of, get_or_rows_of}
 
 module _ (rows : List Row) (w a none n : ℕ) (xs : List ℕ) (i : ℕ) where
   this : i < n → drop i (rows_of n xs) ≡ entry_at xs (i * 5) ∷ drop (i + 1) (rows_of n xs)
   this h =
       let k : i < length (rows_of n xs) = rw (length-rows_of n xs) h in
-      rw (add-one i, drop-cons (rows_of n xs) i (entry_at xs 0) k, get_d_rows_of n xs (entry_at xs 0) i h)
+      rw (add-one i, drop-cons (rows_of n xs) i (entry_at xs 0) k, get_or_rows_of n xs (entry_at xs 0) i h)
 
   module _ (all : ℕ) (kept : first_swap rows w a none (drop i (rows_of n xs)) ≡ all) where
     -- t is what the test of row i has told

@@ -19,13 +19,14 @@ length-rows_of zero xs = refl
 length-rows_of (suc n) xs = length-append (rows_of n xs) (entry_at xs (n * 5) ∷ []) ∙ (ap (λ (k : ℕ). k + 1) (length-rows_of n xs) ∙ add-one n)
 
 -- row i of those that are read
-pub get_d_rows_of : (n : ℕ) (xs : List ℕ) (d : Entry) (i : ℕ) → i < n → get_or (rows_of n xs) i d ≡ entry_at xs (i * 5)
-get_d_rows_of (suc n) xs d i h =
+pub get_or_rows_of : (n : ℕ) (xs : List ℕ) (d : Entry) (i : ℕ) → i < n → get_or (rows_of n xs) i d ≡ entry_at xs (i * 5)
+get_or_rows_of zero xs d i h = elim h [ ]
+get_or_rows_of (suc n) xs d i h =
     ⊎_elim
     (λ e. rw e (get_or_at (rows_of n xs) (entry_at xs (n * 5)) [] d n (length-rows_of n xs)))
     (λ l.
     let k : i < length (rows_of n xs) = rw (length-rows_of n xs) l in
-    get_or-append (rows_of n xs) (entry_at xs (n * 5) ∷ []) d i k ∙ get_d_rows_of n xs d i l)
+    get_or-append (rows_of n xs) (entry_at xs (n * 5) ∷ []) d i k ∙ get_or_rows_of n xs d i l)
     (eq-or-lt_of_le (omega arith))
 
 pub length_snoc : (e : Entry) (es : List Entry) → length (es ++ (e ∷ [])) ≡ length es + 1

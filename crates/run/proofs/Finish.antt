@@ -19,7 +19,7 @@ use Rattle.machine.specs.declared.Process.{Process}
 use Rattle.engine.specs.declared.Standing.{Standing}
 use Rattle.engine.specs.declared.Part.{Part}
 use Rattle.machine.specs.Records.{fresh, nobody}
-use Rattle.machine.specs.Laws.{Sane, sane_idle, fresh_at, closed_open, get_d_either}
+use Rattle.machine.specs.Laws.{Sane, sane_idle, fresh_at, closed_open, get_or_either}
 use Rattle.machine.specs.Machine.{State, Effect, quiet, swaps, logs, replies, words_after, turn, apply, applied, proc_at, act, act_in, step, step_in, after, after_in, begin}
 use Rattle.run.specs.declared.Outcome.TheVariants.{Ran}
 use Rattle.engine.specs.Part.{Holds, Runnable, Runs, state_lent}
@@ -67,7 +67,7 @@ sane_first : (rows : List Row) (p : ℕ) → Sane rows p (get_or (replicate 16 f
 sane_first rows p = go (ltb p 16) refl
   where
     go : (c : Bool) → ltb p 16 ≡ c → Sane rows p (get_or (replicate 16 fresh) p nobody)
-    go true e = subst (Sane rows p) (sym (get_d_either (replicate 16 fresh) p nobody fresh (ltb-true p 16 e) ∙ fresh_at 16 p)) (sane_idle rows p)
+    go true e = subst (Sane rows p) (sym (get_or_either (replicate 16 fresh) p nobody fresh (ltb-true p 16 e) ∙ fresh_at 16 p)) (sane_idle rows p)
     go false e = subst (Sane rows p) (sym (get_or-eq_default (replicate 16 fresh) nobody (ltb-false p 16 e))) (record { in_file = λ k e. closed_open e; works = tt; left = λ x. absurd x })
 
 module _ (h : Header) (f words log answers : List ℕ) (l : Lawful h f (room_of words log answers)) where

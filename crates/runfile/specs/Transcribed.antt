@@ -3,7 +3,7 @@
 use Rattle.std.specs.Prelude.{ℕ, zero, suc, ◌+◌, ◌*◌, ◌-◌, ◌≤◌, ◌<◌, ◌≡◌, Bool, true, false, not, ◌&&◌, ◌||◌, List, [], ◌∷◌, leb, eqb, get_or, take}
 use Rattle.std.proofs.Math.Path.{refl, ap}
 use Rattle.std.proofs.Common.{sym, ap₂, subst, ◌∙◌, arith, zero-mul, suc-mul, eqb-true, eq-eqb, ne_eqb, le-ltb}
-use Rattle.std.proofs.Math.Bool.{and_false}
+use Rattle.std.proofs.Math.Bool.{and-false}
 use Rattle.std.proofs.Math.Dec.{ltb}
 use Rattle.std.proofs.Math.ListN.{length}
 use Rattle.std.proofs.lemmas.Bool.{eqb-false}
@@ -151,7 +151,7 @@ tied n given m wide e = go (eqb n given) refl
 kind_alike : (a b : Header) (r s : Row) → r ≡ s → (r.kind ≡ 2 → ⊥) → bad_kind a.version r.kind ≡ bad_kind b.version s.kind
 kind_alike a b r s e other =
     ap (λ t. (eqb a.version 1 && t) || ltb 2 r.kind) (ne_eqb r.kind 2 other)
-    ∙ ap (λ t. t || ltb 2 r.kind) (and_false (eqb a.version 1) ∙ sym (and_false (eqb b.version 1)))
+    ∙ ap (λ t. t || ltb 2 r.kind) (and-false (eqb a.version 1) ∙ sym (and-false (eqb b.version 1)))
     ∙ ap (λ t. (eqb b.version 1 && t) || ltb 2 r.kind) (sym (ne_eqb r.kind 2 other))
     ∙ ap (λ (u : Row). bad_kind b.version u.kind) e
 

@@ -19,7 +19,7 @@ use types.Logic.{Logic, sem}
 use contract.Monad.{Fun, fact}
 use contract.Running.{tables, tables_of}
 use types.Kit.{‵, raw, some, later, ◌⊛◌, ⋆, ◌$◌, ◌∵◌, !, qed, by, move, keep, drop, use1, use3, split, join, pick, rewrite, fsplit, fjoin, fpack, feq_l, feq_i, suffices, frame, await, done}
-use types.Run.{look, store, init, forget, stop, hop, fld, from, load, lit, addr, of_opd, and_then, no_more, assigns, land, returns, enter, alloc1, alloc0, params1, pass1, pass0, free1, free0}
+use types.Run.{look, store, init, forget, stop, hop, fld, from, load, lit, addr, of_opd, and_then, no-more, assigns, land, returns, enter, alloc1, alloc0, params1, pass1, pass0, free1, free0}
 use types.Part.{agg, whole, sub, look_in}
 use types.Tokens.{lft_new, lft_end}
 use types.SemTy.{cells, Arr}
@@ -218,7 +218,7 @@ module _ {M : Type 1} {𝓤 : Ura M} (𝓛 : Logic 𝓤) (mem : Memory → SProp
         move ! (37 ∷ []) $ fsplit ! $ move ! (1 ∷ []) $ fsplit ! $ move ! (1 ∷ []) $ fsplit ! $ move ! (1 ∷ []) $ fsplit ! $ move ! (1 ∷ []) $ fsplit ! $ move ! (1 ∷ []) $ drop ! $ move ! (3 ∷ []) $ drop ! $ move ! (40 ∷ []) $ split ! $ move ! (1 ∷ []) $ split ! $ move ! (1 ∷ []) $ split ! $ move ! (1 ∷ []) $ split ! $ move ! (1 ∷ []) $ drop ! $ move ! (7 ∷ []) $ use1 𝓛 (‵ ((ShrSlice (named 0) κ₀ u8).own_val x₀ (s₀ ∷ [])) ⊛ ‵ ((ShrSlice (named 0) κ₀ u8).own_val x₀ (s₀ ∷ []))) ((shr_slice_copy 𝓛 (named 0) κ₀ u8).twice x₀ (s₀ ∷ [])) $ split ! $
         -- records = records_of(bench)
         nothing ! $ use1 𝓛 (raw ((RecordsOf 𝓛 mem run).pre to_records_of)) goes_records_of $
-        calls_at ! fm (RecordsOf 𝓛 mem run) known-records-of to_records_of (and_then ! (load ! (from ! (stop !)) (look ! 40 refl)) (no_more !)) (λ w₁.
+        calls_at ! fm (RecordsOf 𝓛 mem run) known-records-of to_records_of (and_then ! (load ! (from ! (stop !)) (look ! 40 refl)) (no-more !)) (λ w₁.
         use1 𝓛 (later (some (λ (records : List Process). (‵ ftrue ⊛ ‵ (Ra.own records (w₁ ∷ []))) ⊛ raw (ensured 𝓛 records-of.ended (records-of.clauses 𝓛 mem run) tt (bench, tt) tt records)))) (id⊢ 𝓤 _) $ await ! tt $ pick ! (λ records.
         split ! $ move ! (1 ∷ []) $ use1 𝓛 (raw (fact 𝓤 (records ≡ bench.records))) (records_are 𝓛 mem run bench records) $ heard ! (records ≡ bench.records) (λ out.
         split ! $ drop ! $ peeks ! Ra (Is Ra) (shows 𝓛 Ra) records (w₁ ∷ []) (λ st.
@@ -226,13 +226,13 @@ module _ {M : Type 1} {𝓤 : Ura M} (𝓛 : Logic 𝓤) (mem : Memory → SProp
         assigns ! (of_opd ! (load ! (from ! (stop !)) (look ! 25 refl))) (from ! (stop !)) (init ! 29 refl ((Array-Lawful 𝓛 R (LL.lawful T.the_type T'.the_laws 𝓛) 16).typed records _ st).0) $
         -- their place is taken, and the buffers are lent on
         assigns ! (addr ! (from ! (stop !))) (from ! (stop !)) (init ! 23 refl (tt, tt)) $
-        assigns ! (agg ! (and_then ! (load ! (from ! (stop !)) (look ! 23 refl)) (and_then ! (lit ! tt) (no_more !)))) (from ! (stop !)) (init ! 21 refl (tt, (tt, (record { fits = lit< tt }, tt)))) $
+        assigns ! (agg ! (and_then ! (load ! (from ! (stop !)) (look ! 23 refl)) (and_then ! (lit ! tt) (no-more !)))) (from ! (stop !)) (init ! 21 refl (tt, (tt, (record { fits = lit< tt }, tt)))) $
         assigns ! (addr ! (from ! (fld ! refl (hop ! (look_in ! 37 (sub ! 0 refl (whole !))) (stop !))))) (from ! (stop !)) (init ! 19 refl (tt, tt)) $
-        assigns ! (agg ! (and_then ! (load ! (from ! (stop !)) (look ! 19 refl)) (and_then ! (load ! (from ! (fld ! refl (stop !))) (look_in ! 37 (sub ! 1 refl (whole !)))) (no_more !)))) (from ! (stop !)) (init ! 17 refl (tt, (tt, (record { fits = room₂.0 }, tt)))) $
+        assigns ! (agg ! (and_then ! (load ! (from ! (stop !)) (look ! 19 refl)) (and_then ! (load ! (from ! (fld ! refl (stop !))) (look_in ! 37 (sub ! 1 refl (whole !)))) (no-more !)))) (from ! (stop !)) (init ! 17 refl (tt, (tt, (record { fits = room₂.0 }, tt)))) $
         assigns ! (addr ! (from ! (fld ! refl (hop ! (look_in ! 35 (sub ! 0 refl (whole !))) (stop !))))) (from ! (stop !)) (init ! 15 refl (tt, tt)) $
-        assigns ! (agg ! (and_then ! (load ! (from ! (stop !)) (look ! 15 refl)) (and_then ! (load ! (from ! (fld ! refl (stop !))) (look_in ! 35 (sub ! 1 refl (whole !)))) (no_more !)))) (from ! (stop !)) (init ! 13 refl (tt, (tt, (record { fits = room₃.0 }, tt)))) $
+        assigns ! (agg ! (and_then ! (load ! (from ! (stop !)) (look ! 15 refl)) (and_then ! (load ! (from ! (fld ! refl (stop !))) (look_in ! 35 (sub ! 1 refl (whole !)))) (no-more !)))) (from ! (stop !)) (init ! 13 refl (tt, (tt, (record { fits = room₃.0 }, tt)))) $
         assigns ! (addr ! (from ! (fld ! refl (hop ! (look_in ! 33 (sub ! 0 refl (whole !))) (stop !))))) (from ! (stop !)) (init ! 11 refl (tt, tt)) $
-        assigns ! (agg ! (and_then ! (load ! (from ! (stop !)) (look ! 11 refl)) (and_then ! (load ! (from ! (fld ! refl (stop !))) (look_in ! 33 (sub ! 1 refl (whole !)))) (no_more !)))) (from ! (stop !)) (init ! 9 refl (tt, (tt, (record { fits = room₄.0 }, tt)))) $
+        assigns ! (agg ! (and_then ! (load ! (from ! (stop !)) (look ! 11 refl)) (and_then ! (load ! (from ! (fld ! refl (stop !))) (look_in ! 33 (sub ! 1 refl (whole !)))) (no-more !)))) (from ! (stop !)) (init ! 9 refl (tt, (tt, (record { fits = room₄.0 }, tt)))) $
         -- the records are lent for a lifetime of the call
         move ! (29 ∷ []) $ use1 𝓛 (‵ (cell_at full_share Ra.mir (w₁ ∷ []) l₇ 0)) (𝓛.laws.at_raw full_share arr l₇ 0 w₁) $ owned ! Ra (Is Ra) (Array-Makes 𝓛 R (LL.makes T.the_type T'.the_plain 𝓛) 16) records _ st $ move ! (1 ∷ 0 ∷ []) $ join ! $ use1 𝓛 (‵ (part_at Ra full_share records l₇ 0)) (part_in 𝓛 records w₁ l₇ 0) $
         use1 𝓛 (‵ ((arr_parts (shares R) 16).part full_share records l₇ 0)) (Array-apart 𝓛 R full_share tt 16 records l₇ 0) $ fsplit ! $ feq_l ! (λ sixteen.
@@ -241,7 +241,7 @@ module _ {M : Type 1} {𝓤 : Ura M} (𝓛 : Logic 𝓤) (mem : Memory → SProp
         split ! $
         -- outcome = panel::key(file, &mut records, words, log, answers, key)
         move ! (10 ∷ 9 ∷ []) $ join ! $ move ! (10 ∷ 0 ∷ []) $ join ! $ move ! (1 ∷ 0 ∷ []) $ join ! $ move ! (3 ∷ 0 ∷ []) $ join ! $ move ! (4 ∷ 0 ∷ []) $ join ! $ move ! (4 ∷ 0 ∷ []) $ join ! $ move ! (4 ∷ 0 ∷ []) $ join ! $ move ! (2 ∷ 0 ∷ []) $ join ! $ move ! (3 ∷ 0 ∷ []) $ join ! $ use1 𝓛 (raw ((OneKey 𝓛 mem run).pre (to_key records l₇ ν δ))) (goes_key records l₇ ν δ) $
-        calls_at ! fm (OneKey 𝓛 mem run) known-key (to_key records l₇ ν δ) (and_then ! (load ! (from ! (stop !)) (look ! 34 refl)) (and_then ! (load ! (from ! (stop !)) (look ! 15 refl)) (and_then ! (load ! (from ! (stop !)) (look ! 11 refl)) (and_then ! (load ! (from ! (stop !)) (look ! 7 refl)) (and_then ! (load ! (from ! (stop !)) (look ! 3 refl)) (and_then ! (load ! (from ! (stop !)) (look ! 24 refl)) (no_more !))))))) (λ w₂.
+        calls_at ! fm (OneKey 𝓛 mem run) known-key (to_key records l₇ ν δ) (and_then ! (load ! (from ! (stop !)) (look ! 34 refl)) (and_then ! (load ! (from ! (stop !)) (look ! 15 refl)) (and_then ! (load ! (from ! (stop !)) (look ! 11 refl)) (and_then ! (load ! (from ! (stop !)) (look ! 7 refl)) (and_then ! (load ! (from ! (stop !)) (look ! 3 refl)) (and_then ! (load ! (from ! (stop !)) (look ! 24 refl)) (no-more !))))))) (λ w₂.
         use1 𝓛 (later (some (λ (r : Outcome). ((‵ (flft κ₀ q₀) ⊛ ‵ (flft (ν ∷ []) full_share) ⊛ ‵ (flft κ₂ q₂) ⊛ ‵ (flft κ₃ q₃) ⊛ ‵ (flft κ₄ q₄) ⊛ ‵ ftrue) ⊛ ‵ ((O.the_row).own_val r (w₂ ∷ []))) ⊛ raw (ensured 𝓛 key.ended (key.clauses 𝓛 mem run) (κ₀, (ν ∷ [], (κ₂, (κ₃, (κ₄, tt))))) (x₀, (lent_as records l₇ δ, (x₂, (x₃, (x₄, (stroke, tt)))))) tt r)))) (id⊢ 𝓤 _) $ await ! tt $ pick ! (λ r.
         split ! $ move ! (1 ∷ []) $ use1 𝓛 (some (λ (vs : Unit {0} × (List Process × (List ℕ × (List ℕ × (List ℕ × (Unit {0} × (Unit {0}))))))). ‵ (lasts key.ended (κ₀, (ν ∷ [], (κ₂, (κ₃, (κ₄, tt))))) (x₀, (lent_as records l₇ δ, (x₂, (x₃, (x₄, (stroke, tt)))))) vs) ⊛ raw (fact 𝓤 (Keyed file records words log answers stroke r vs.1.0 vs.1.1.0 vs.1.1.1.0 vs.1.1.1.1.0)))) (id⊢ 𝓤 _) $ pick ! (λ vs.
         split ! $ move ! (1 ∷ []) $ heard ! (Keyed file records words log answers stroke r vs.1.0 vs.1.1.0 vs.1.1.1.0 vs.1.1.1.1.0) (λ is.
@@ -258,7 +258,7 @@ module _ {M : Type 1} {𝓤 : Ura M} (𝓛 : Logic 𝓤) (mem : Memory → SProp
         -- with_records(bench, records, outcome)
         assigns ! (of_opd ! (load ! (from ! (stop !)) (look ! 0 refl))) (from ! (stop !)) (store ! 25 refl ((Array-Lawful 𝓛 R (LL.lawful T.the_type T'.the_laws 𝓛) 16).typed vs.1.0 _ zt).0) $
         nothing ! $ use1 𝓛 (raw ((WithRecords 𝓛 mem run).pre (to_with_records vs.1.0 r w₂))) (goes_with_records vs.1.0 r w₂ zt rt) $
-        calls_at ! fm (WithRecords 𝓛 mem run) known-with-records (to_with_records vs.1.0 r w₂) (and_then ! (load ! (from ! (stop !)) (look ! 39 refl)) (and_then ! (load ! (from ! (stop !)) (look ! 26 refl)) (and_then ! (load ! (from ! (stop !)) (look ! 28 refl)) (no_more !)))) (λ w₃.
+        calls_at ! fm (WithRecords 𝓛 mem run) known-with-records (to_with_records vs.1.0 r w₂) (and_then ! (load ! (from ! (stop !)) (look ! 39 refl)) (and_then ! (load ! (from ! (stop !)) (look ! 26 refl)) (and_then ! (load ! (from ! (stop !)) (look ! 28 refl)) (no-more !)))) (λ w₃.
         use1 𝓛 (later (some (λ (m : Pressed). (‵ ftrue ⊛ ‵ ((P.the_row).own_val m (w₃ ∷ []))) ⊛ raw (ensured 𝓛 with-records.ended (with-records.clauses 𝓛 mem run) tt (bench, (vs.1.0, (r, tt))) tt m)))) (id⊢ 𝓤 _) $ await ! tt $ pick ! (λ m.
         split ! $ move ! (1 ∷ []) $ use1 𝓛 (raw (fact 𝓤 ((m.bench.records ≡ vs.1.0) × (m.outcome ≡ r)))) (given_back 𝓛 mem run bench vs.1.0 r m) $ heard ! ((m.bench.records ≡ vs.1.0) × (m.outcome ≡ r)) (λ made.
         split ! $ drop ! $ peeks ! P.the_row (Is P.the_row) (shows 𝓛 P.the_row) m (w₃ ∷ []) (λ mt.

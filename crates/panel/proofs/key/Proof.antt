@@ -19,7 +19,7 @@ use types.Logic.{Logic, sem}
 use contract.Monad.{Fun, fact}
 use contract.Running.{tables, tables_of}
 use types.Kit.{‵, raw, some, later, ◌⊛◌, ⋆, ◌$◌, ◌∵◌, !, qed, by, move, keep, drop, use1, split, join, pick, rewrite, fsplit, fjoin, feq_l, feq_i, suffices, frame, await, done}
-use types.Run.{look, init, forget, stop, hop, fld, from, load, addr, of_opd, and_then, no_more, assigns, land, returns, enter, alloc1, alloc0, params1, pass1, pass0, free1, free0}
+use types.Run.{look, init, forget, stop, hop, fld, from, load, addr, of_opd, and_then, no-more, assigns, land, returns, enter, alloc1, alloc0, params1, pass1, pass0, free1, free0}
 use types.Part.{agg, whole, sub, look_in}
 use types.Tokens.{lft_new, lft_end, lent_back}
 use types.Share.{arr_parts}
@@ -262,18 +262,18 @@ module _ {M : Type 1} {𝓤 : Ura M} (𝓛 : Logic 𝓤) (mem : Memory → SProp
         -- n = held(records.len())
         assigns ! (of_opd ! (load ! (from ! (fld ! refl (stop !))) (look_in ! 53 (sub ! 1 refl (whole !))))) (from ! (stop !)) (init ! 33 refl (tt, record { fits = room₁.0 })) $
         nothing ! $ use1 𝓛 (raw ((HowMany 𝓛 mem run).pre to_held)) (goes_held room₁) $
-        calls_at ! fm (HowMany 𝓛 mem run) known-held to_held (and_then ! (load ! (from ! (stop !)) (look ! 34 refl)) (no_more !)) (λ w₁.
+        calls_at ! fm (HowMany 𝓛 mem run) known-held to_held (and_then ! (load ! (from ! (stop !)) (look ! 34 refl)) (no-more !)) (λ w₁.
         use1 𝓛 (later (some (λ (n : ℕ). (‵ ftrue ⊛ ‵ (usize.own_val n (w₁ ∷ []))) ⊛ raw (ensured 𝓛 held.ended (held.clauses 𝓛 mem run) tt (length records, tt) tt n)))) (id⊢ 𝓤 _) $ await ! tt $ pick ! (λ n.
         split ! $ move ! (1 ∷ []) $ use1 𝓛 (raw (fact 𝓤 (HeldSays n))) (held_of 𝓛 mem run (length records) n) $ heard ! (HeldSays n) (λ count.
         split ! $ drop ! $ peeks ! usize (Is usize) (shows 𝓛 usize) n (w₁ ∷ []) (λ nt.
         land ! (from ! (stop !)) (init ! 44 refl ((uint_Lawful 𝓛 w64).typed n _ nt).0) $ rewrite ! 44 (λ (m : Val). ‵ (fat full_share (ty_int w64) l₇ 0 m)) (ap only nt.0) refl $ drop ! $
         -- processes = take(records, n): the borrow is opened, and its elements are lent as `&` for a lifetime of the call
         assigns ! (addr ! (from ! (fld ! refl (hop ! (look_in ! 53 (sub ! 0 refl (whole !))) (stop !))))) (from ! (stop !)) (init ! 31 refl (tt, tt)) $
-        assigns ! (agg ! (and_then ! (load ! (from ! (stop !)) (look ! 31 refl)) (and_then ! (load ! (from ! (fld ! refl (stop !))) (look_in ! 53 (sub ! 1 refl (whole !)))) (no_more !)))) (from ! (stop !)) (init ! 29 refl (tt, (tt, (record { fits = room₁.0 }, tt)))) $
+        assigns ! (agg ! (and_then ! (load ! (from ! (stop !)) (look ! 31 refl)) (and_then ! (load ! (from ! (fld ! refl (stop !))) (look_in ! 53 (sub ! 1 refl (whole !)))) (no-more !)))) (from ! (stop !)) (init ! 29 refl (tt, (tt, (record { fits = room₁.0 }, tt)))) $
         move ! (10 ∷ []) $ fsplit ! $ move ! (1 ∷ []) $ fsplit ! $ move ! (0 ∷ 1 ∷ 8 ∷ []) $ opens_slice ! tt R records b₁ o₁ $ lft_new ! tt (λ ν.
         move ! (1 ∷ []) $ feq_i ! ℕ (length records) (length records) refl $ fjoin ! $ use1 𝓛 (later (some (λ (δ : GName). ‵ ((ShrSlice (named 0) (ν ∷ []) R).own_val (named_as δ) (s₁ ∷ [])) ⊛ ‵ (flent (ν ∷ []) ((arr_parts (shares R) (length records)).part full_share records b₁ o₁))))) (lends_shr_slice 𝓛 R (named 0) (ν ∷ []) full_share records b₁ o₁ room₁) $ await ! tt $ pick ! (λ δ.
         split ! $ move ! (2 ∷ 0 ∷ []) $ join ! $ use1 𝓛 (raw ((Take 𝓛 mem run).pre (to_take ν δ n))) (goes_take ν δ n nt.1 (count.1, count.2)) $
-        calls_at ! fm (Take 𝓛 mem run) known-take (to_take ν δ n) (and_then ! (load ! (from ! (stop !)) (look ! 33 refl)) (and_then ! (load ! (from ! (stop !)) (look ! 47 refl)) (no_more !))) (λ w₂.
+        calls_at ! fm (Take 𝓛 mem run) known-take (to_take ν δ n) (and_then ! (load ! (from ! (stop !)) (look ! 33 refl)) (and_then ! (load ! (from ! (stop !)) (look ! 47 refl)) (no-more !))) (λ w₂.
         use1 𝓛 (later (some (λ (u : List Process). ((‵ (flft (ν ∷ []) full_share) ⊛ ‵ ftrue) ⊛ ‵ (Ra.own u (w₂ ∷ []))) ⊛ raw (ensured 𝓛 take.ended (take.clauses 𝓛 mem run) (ν ∷ [], tt) (named_as δ, (n, tt)) tt u)))) (id⊢ 𝓤 _) $ await ! tt $ pick ! (λ u.
         split ! $ move ! (1 ∷ []) $ use1 𝓛 (raw (fact 𝓤 (u ≡ laid n records blank))) (take-of 𝓛 mem run (ν ∷ []) (named_as δ, (n, tt)) u) $ heard ! (u ≡ laid n records blank) (λ taken.
         split ! $ move ! (1 ∷ []) $ peeks ! Ra (Is Ra) (shows 𝓛 Ra) u (w₂ ∷ []) (λ ut.
@@ -282,20 +282,20 @@ module _ {M : Type 1} {𝓤 : Ura M} (𝓛 : Logic 𝓤) (mem : Memory → SProp
         closes_slice ! tt R records records refl b₁ o₁ $ fjoin ! $ move ! (2 ∷ 0 ∷ []) $ fjoin ! $
         -- table = table_of(processes, n)
         nothing ! $ use1 𝓛 (raw ((TableOf 𝓛 mem run).pre (to_table_of u w₂ n))) (goes_table_of u w₂ n ut nt.1) $
-        calls_at ! fm (TableOf 𝓛 mem run) known-table-of (to_table_of u w₂ n) (and_then ! (load ! (from ! (stop !)) (look ! 42 refl)) (and_then ! (load ! (from ! (stop !)) (look ! 44 refl)) (no_more !))) (λ w₃.
+        calls_at ! fm (TableOf 𝓛 mem run) known-table-of (to_table_of u w₂ n) (and_then ! (load ! (from ! (stop !)) (look ! 42 refl)) (and_then ! (load ! (from ! (stop !)) (look ! 44 refl)) (no-more !))) (λ w₃.
         use1 𝓛 (later (some (λ (t : Table). (‵ ftrue ⊛ ‵ ((B.the_row).own_val t (w₃ ∷ []))) ⊛ raw (ensured 𝓛 table_of.ended (table_of.clauses 𝓛 mem run) tt (u, (n, tt)) tt t)))) (id⊢ 𝓤 _) $ await ! tt $ pick ! (λ t.
         split ! $ move ! (1 ∷ []) $ use1 𝓛 (raw (fact 𝓤 ((t.processes ≡ u) × (t.held ≡ n)))) (table_is 𝓛 mem run u n t) $ heard ! ((t.processes ≡ u) × (t.held ≡ n)) (λ tabled.
         split ! $ drop ! $ peeks ! B.the_row (Is B.the_row) (shows 𝓛 B.the_row) t (w₃ ∷ []) (λ tt'.
         land ! (from ! (stop !)) (init ! 40 refl ((LL.lawful B.the_type B'.the_laws 𝓛).typed t _ tt').0) $ drop ! $
         -- after = press(file, table, words, log, answers, key)
         assigns ! (addr ! (from ! (fld ! refl (hop ! (look_in ! 51 (sub ! 0 refl (whole !))) (stop !))))) (from ! (stop !)) (init ! 27 refl (tt, tt)) $
-        assigns ! (agg ! (and_then ! (load ! (from ! (stop !)) (look ! 27 refl)) (and_then ! (load ! (from ! (fld ! refl (stop !))) (look_in ! 51 (sub ! 1 refl (whole !)))) (no_more !)))) (from ! (stop !)) (init ! 25 refl (tt, (tt, (record { fits = room₂.0 }, tt)))) $
+        assigns ! (agg ! (and_then ! (load ! (from ! (stop !)) (look ! 27 refl)) (and_then ! (load ! (from ! (fld ! refl (stop !))) (look_in ! 51 (sub ! 1 refl (whole !)))) (no-more !)))) (from ! (stop !)) (init ! 25 refl (tt, (tt, (record { fits = room₂.0 }, tt)))) $
         assigns ! (addr ! (from ! (fld ! refl (hop ! (look_in ! 49 (sub ! 0 refl (whole !))) (stop !))))) (from ! (stop !)) (init ! 23 refl (tt, tt)) $
-        assigns ! (agg ! (and_then ! (load ! (from ! (stop !)) (look ! 23 refl)) (and_then ! (load ! (from ! (fld ! refl (stop !))) (look_in ! 49 (sub ! 1 refl (whole !)))) (no_more !)))) (from ! (stop !)) (init ! 21 refl (tt, (tt, (record { fits = room₃.0 }, tt)))) $
+        assigns ! (agg ! (and_then ! (load ! (from ! (stop !)) (look ! 23 refl)) (and_then ! (load ! (from ! (fld ! refl (stop !))) (look_in ! 49 (sub ! 1 refl (whole !)))) (no-more !)))) (from ! (stop !)) (init ! 21 refl (tt, (tt, (record { fits = room₃.0 }, tt)))) $
         assigns ! (addr ! (from ! (fld ! refl (hop ! (look_in ! 47 (sub ! 0 refl (whole !))) (stop !))))) (from ! (stop !)) (init ! 19 refl (tt, tt)) $
-        assigns ! (agg ! (and_then ! (load ! (from ! (stop !)) (look ! 19 refl)) (and_then ! (load ! (from ! (fld ! refl (stop !))) (look_in ! 47 (sub ! 1 refl (whole !)))) (no_more !)))) (from ! (stop !)) (init ! 17 refl (tt, (tt, (record { fits = room₄.0 }, tt)))) $
+        assigns ! (agg ! (and_then ! (load ! (from ! (stop !)) (look ! 19 refl)) (and_then ! (load ! (from ! (fld ! refl (stop !))) (look_in ! 47 (sub ! 1 refl (whole !)))) (no-more !)))) (from ! (stop !)) (init ! 17 refl (tt, (tt, (record { fits = room₄.0 }, tt)))) $
         move ! (9 ∷ 8 ∷ []) $ join ! $ move ! (9 ∷ 0 ∷ []) $ join ! $ move ! (3 ∷ 0 ∷ []) $ join ! $ move ! (4 ∷ 0 ∷ []) $ join ! $ move ! (4 ∷ 0 ∷ []) $ join ! $ move ! (4 ∷ 0 ∷ []) $ join ! $ move ! (4 ∷ 0 ∷ []) $ join ! $ use1 𝓛 (raw ((Press 𝓛 mem run).pre (to_press t w₃))) (goes_press t w₃ tt') $
-        calls_at ! fm (Press 𝓛 mem run) known-press (to_press t w₃) (and_then ! (load ! (from ! (stop !)) (look ! 48 refl)) (and_then ! (load ! (from ! (stop !)) (look ! 32 refl)) (and_then ! (load ! (from ! (stop !)) (look ! 18 refl)) (and_then ! (load ! (from ! (stop !)) (look ! 14 refl)) (and_then ! (load ! (from ! (stop !)) (look ! 10 refl)) (and_then ! (load ! (from ! (stop !)) (look ! 38 refl)) (no_more !))))))) (λ w₄.
+        calls_at ! fm (Press 𝓛 mem run) known-press (to_press t w₃) (and_then ! (load ! (from ! (stop !)) (look ! 48 refl)) (and_then ! (load ! (from ! (stop !)) (look ! 32 refl)) (and_then ! (load ! (from ! (stop !)) (look ! 18 refl)) (and_then ! (load ! (from ! (stop !)) (look ! 14 refl)) (and_then ! (load ! (from ! (stop !)) (look ! 10 refl)) (and_then ! (load ! (from ! (stop !)) (look ! 38 refl)) (no-more !))))))) (λ w₄.
         use1 𝓛 (later (some (λ (m : After). ((‵ (flft κ₀ q₀) ⊛ ‵ (flft κ₂ q₂) ⊛ ‵ (flft κ₃ q₃) ⊛ ‵ (flft κ₄ q₄) ⊛ ‵ ftrue) ⊛ ‵ ((N.the_row).own_val m (w₄ ∷ []))) ⊛ raw (ensured 𝓛 press.ended (press.clauses 𝓛 mem run) (κ₀, (κ₂, (κ₃, (κ₄, tt)))) (press_args t) tt m)))) (id⊢ 𝓤 _) $ await ! tt $ pick ! (λ m.
         split ! $ move ! (1 ∷ []) $ use1 𝓛 (some (λ (vs : Unit {0} × (Unit {0} × (List ℕ × (List ℕ × (List ℕ × (Unit {0} × (Unit {0}))))))). ‵ (lasts press.ended (κ₀, (κ₂, (κ₃, (κ₄, tt)))) (press_args t) vs) ⊛ raw (fact 𝓤 (PressSays t m vs.1.1.0 vs.1.1.1.0 vs.1.1.1.1.0)))) (id⊢ 𝓤 _) $ pick ! (λ vs.
         split ! $ move ! (1 ∷ []) $ heard ! (PressSays t m vs.1.1.0 vs.1.1.1.0 vs.1.1.1.1.0) (λ pressed-is.
@@ -304,16 +304,16 @@ module _ {M : Type 1} {𝓤 : Ura M} (𝓛 : Logic 𝓤) (mem : Memory → SProp
         land ! (from ! (stop !)) (init ! 37 refl ((LL.lawful N.the_type N'.the_laws 𝓛).typed m _ mt).0) $ rewrite ! 37 (λ (w : Val). ‵ (fat full_share N'.mir l₁₀ 0 w)) (ap only (LL.tells N.the_type N'.the_laws m (w₄ ∷ []) mt)) refl $ drop ! $
         -- left = processes_of(after)
         nothing ! $ use1 𝓛 (raw ((ProcessesOf 𝓛 mem run).pre (to_processes_of m))) (goes_processes_of m (subst (λ (w : List Val). Is N.the_row m w) (LL.tells N.the_type N'.the_laws m (w₄ ∷ []) mt) mt)) $
-        calls_at ! fm (ProcessesOf 𝓛 mem run) known-processes-of (to_processes_of m) (and_then ! (load ! (from ! (stop !)) (look ! 37 refl)) (no_more !)) (λ w₅.
+        calls_at ! fm (ProcessesOf 𝓛 mem run) known-processes-of (to_processes_of m) (and_then ! (load ! (from ! (stop !)) (look ! 37 refl)) (no-more !)) (λ w₅.
         use1 𝓛 (later (some (λ (ps : List Process). (‵ ftrue ⊛ ‵ (Ra.own ps (w₅ ∷ []))) ⊛ raw (ensured 𝓛 processes-of.ended (processes-of.clauses 𝓛 mem run) tt (m, tt) tt ps)))) (id⊢ 𝓤 _) $ await ! tt $ pick ! (λ ps.
         split ! $ move ! (1 ∷ []) $ use1 𝓛 (raw (fact 𝓤 (ps ≡ m.processes))) (processes_are 𝓛 mem run m ps) $ heard ! (ps ≡ m.processes) (λ left.
         split ! $ drop ! $ peeks ! Ra (Is Ra) (shows 𝓛 Ra) ps (w₅ ∷ []) (λ pt.
         land ! (from ! (stop !)) (init ! 35 refl ((Array-Lawful 𝓛 R (LL.lawful T.the_type T'.the_laws 𝓛) 16).typed ps _ pt).0) $ drop ! $
         -- give(records, n, left): the borrow goes to the callee for good
         assigns ! (addr ! (from ! (fld ! refl (hop ! (look_in ! 52 (sub ! 0 refl (whole !))) (stop !))))) (from ! (stop !)) (init ! 12 refl (tt, tt)) $
-        assigns ! (agg ! (and_then ! (load ! (from ! (stop !)) (look ! 12 refl)) (and_then ! (load ! (from ! (fld ! refl (stop !))) (look_in ! 52 (sub ! 1 refl (whole !)))) (no_more !)))) (from ! (stop !)) (init ! 10 refl (tt, (tt, (record { fits = room₁.0 }, tt)))) $
+        assigns ! (agg ! (and_then ! (load ! (from ! (stop !)) (look ! 12 refl)) (and_then ! (load ! (from ! (fld ! refl (stop !))) (look_in ! 52 (sub ! 1 refl (whole !)))) (no-more !)))) (from ! (stop !)) (init ! 10 refl (tt, (tt, (record { fits = room₁.0 }, tt)))) $
         move ! (8 ∷ 7 ∷ []) $ join ! $ use1 𝓛 (raw ((Give 𝓛 mem run).pre (to_give n ps w₅))) (goes_give n ps w₅ nt.1 pt (count.1, count.2)) $
-        calls_at ! fm (Give 𝓛 mem run) known-give (to_give n ps w₅) (and_then ! (load ! (from ! (stop !)) (look ! 9 refl)) (and_then ! (load ! (from ! (stop !)) (look ! 41 refl)) (and_then ! (load ! (from ! (stop !)) (look ! 33 refl)) (no_more !)))) (λ w₆.
+        calls_at ! fm (Give 𝓛 mem run) known-give (to_give n ps w₅) (and_then ! (load ! (from ! (stop !)) (look ! 9 refl)) (and_then ! (load ! (from ! (stop !)) (look ! 41 refl)) (and_then ! (load ! (from ! (stop !)) (look ! 33 refl)) (no-more !)))) (λ w₆.
         use1 𝓛 (later (some (λ (z : Unit {0}). ((‵ (flft κ₁ q₁) ⊛ ‵ ftrue) ⊛ ‵ (Nothing.own z (w₆ ∷ []))) ⊛ raw (ensured 𝓛 give.ended (give.clauses 𝓛 mem run) (κ₁, tt) (x₁, (n, (ps, tt))) tt z)))) (id⊢ 𝓤 _) $ await ! tt $ pick ! (λ z.
         split ! $ move ! (1 ∷ []) $ use1 𝓛 (some (λ (zs : List Process × (Unit {0} × (Unit {0} × (Unit {0})))). ‵ (lasts give.ended (κ₁, tt) (x₁, (n, (ps, tt))) zs) ⊛ raw (fact 𝓤 (zs.0 ≡ laid n ps records)))) (id⊢ 𝓤 _) $ pick ! (λ zs.
         split ! $ move ! (1 ∷ []) $ heard ! (zs.0 ≡ laid n ps records) (λ given.

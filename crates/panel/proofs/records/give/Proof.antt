@@ -25,7 +25,7 @@ use types.Logic.{Logic, sem}
 use contract.Monad.{Fun, fact}
 use contract.Running.{tables, tables_of}
 use types.Kit.{Item, Sq, runs, any_q, at_ret, ‵, raw, some, later, ◌⊛◌, ⋆, ◌$◌, ◌∵◌, !, qed, by, move, keep, drop, use1, split, join, pick, rewrite, fsplit, fjoin, feq_i, suffices, frame, await, done}
-use types.Run.{look, store, store_raw, init, forget, stop, hop, fld, from, load, lit, unit_lit, of_opd, bin, and_then, no_more, assigns, assigns_last, first, blocks, land, returns, enter, exec, alloc1, alloc0, params1, pass1, pass0, free1, free0, Below, again, loops}
+use types.Run.{look, store, store_raw, init, forget, stop, hop, fld, from, load, lit, unit_lit, of_opd, bin, and_then, no-more, assigns, assigns_last, first, blocks, land, returns, enter, exec, alloc1, alloc0, params1, pass1, pass0, free1, free0, Below, again, loops}
 use types.Part.{whole, sub, look_in}
 use sound.WpLaws.{FmC, fm_of, WpFn-mono}
 use denote.RattleType.{RattleType, owns}
@@ -175,7 +175,7 @@ module _ {M : Type 1} {𝓤 : Ura M} (𝓛 : Logic 𝓤) (mem : Memory → SProp
         let near : i * 64 < 2 ^ 64 = place-fits i (length ys) among room.1 in let inn : i < length zs = subst (λ (k : ℕ). i < k) (sym (same j.0 j.1)) among in let small : i < 16 = lt_of_lt_of_le lt enough.0 in
         -- process = record_at(processes, i)
         nothing ! $ use1 𝓛 (raw ((RecordAt 𝓛 mem run).pre (to_record_at i))) (goes_record_at i (fits j) small) $
-        calls_at ! fm (RecordAt 𝓛 mem run) known-record-at (to_record_at i) (and_then ! (load ! (from ! (stop !)) (look ! 15 refl)) (and_then ! (load ! (from ! (stop !)) (look ! 13 refl)) (no_more !))) (λ w.
+        calls_at ! fm (RecordAt 𝓛 mem run) known-record-at (to_record_at i) (and_then ! (load ! (from ! (stop !)) (look ! 15 refl)) (and_then ! (load ! (from ! (stop !)) (look ! 13 refl)) (no-more !))) (λ w.
         use1 𝓛 (later (some (λ (r : Process). (‵ ftrue ⊛ ‵ (R.own r (w ∷ []))) ⊛ raw (ensured 𝓛 record-at.ended (record-at.clauses 𝓛 mem run) tt (t, (i, tt)) tt r)))) (id⊢ 𝓤 _) $ await ! tt $ pick ! (λ r.
         split ! $ move ! (1 ∷ []) $ use1 𝓛 (raw (fact 𝓤 (r ≡ get_or t i nobody))) (record_of 𝓛 mem run t i r) $ heard ! (r ≡ get_or t i nobody) (λ is.
         split ! $ drop ! $ peeks ! R (Is R) (shows 𝓛 R) r (w ∷ []) (λ rt.

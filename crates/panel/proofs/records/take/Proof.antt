@@ -25,7 +25,7 @@ use types.Logic.{Logic, sem}
 use contract.Monad.{Fun, fact}
 use contract.Running.{tables, tables_of}
 use types.Kit.{Item, Sq, runs, any_q, at_ret, ‵, raw, some, later, ◌⊛◌, ⋆, ◌$◌, ◌∵◌, !, qed, by, move, keep, drop, use1, split, join, pick, rewrite, fsplit, fjoin, suffices, frame, await, done}
-use types.Run.{look, look_raw, store, init, forget, stop, hop, fld, from, load, lit, of_opd, bin, and_then, no_more, assigns, assigns_last, first, blocks, land, returns, enter, exec, alloc1, alloc0, params1, pass1, pass0, free1, free0, Below, again, loops}
+use types.Run.{look, look_raw, store, init, forget, stop, hop, fld, from, load, lit, of_opd, bin, and_then, no-more, assigns, assigns_last, first, blocks, land, returns, enter, exec, alloc1, alloc0, params1, pass1, pass0, free1, free0, Below, again, loops}
 use types.Part.{whole, sub, look_in}
 use types.Share.{arr_parts}
 use sound.WpLaws.{FmC, fm_of, WpFn-mono}
@@ -195,7 +195,7 @@ module _ {M : Type 1} {𝓤 : Ura M} (𝓛 : Logic 𝓤) (mem : Memory → SProp
         elem_back ! R q' ys i nobody (vals p) b o inn $
         -- table = with_record(table, i, process)
         nothing ! $ use1 𝓛 (raw ((WithRecord 𝓛 mem run).pre (to_with_record u v i p))) (goes_with_record u v i p j.1.1.1.1.0 (lt_of_le_of_lt j.1.0 n-fits) pt small) $
-        calls_at ! fm (WithRecord 𝓛 mem run) known-with-record (to_with_record u v i p) (and_then ! (load ! (from ! (stop !)) (look ! 16 refl)) (and_then ! (load ! (from ! (stop !)) (look ! 14 refl)) (and_then ! (load ! (from ! (stop !)) (look ! 12 refl)) (no_more !)))) (λ w.
+        calls_at ! fm (WithRecord 𝓛 mem run) known-with-record (to_with_record u v i p) (and_then ! (load ! (from ! (stop !)) (look ! 16 refl)) (and_then ! (load ! (from ! (stop !)) (look ! 14 refl)) (and_then ! (load ! (from ! (stop !)) (look ! 12 refl)) (no-more !)))) (λ w.
         use1 𝓛 (later (some (λ (r : List Process). (‵ ftrue ⊛ ‵ (Ra.own r (w ∷ []))) ⊛ raw (ensured 𝓛 with-record.ended (with-record.clauses 𝓛 mem run) tt (u, (i, (p, tt))) tt r)))) (id⊢ 𝓤 _) $ await ! tt $ pick ! (λ r.
         split ! $ move ! (1 ∷ []) $ use1 𝓛 (raw (fact 𝓤 (r ≡ set u i p))) (set-of 𝓛 mem run u i p r) $ heard ! (r ≡ set u i p) (λ is.
         split ! $ drop ! $ peeks ! Ra (Is Ra) (shows 𝓛 Ra) r (w ∷ []) (λ rt.
@@ -223,7 +223,7 @@ module _ {M : Type 1} {𝓤 : Ura M} (𝓛 : Logic 𝓤) (mem : Memory → SProp
       pass1 ! (init ! 16 refl (tt, (tt, (record { fits = room.0 }, tt)))) $ pass1 ! (init ! 14 refl (tt, record { fits = n-fits })) $ pass0 ! $
       -- table = empty()
       nothing ! $ use1 𝓛 (raw ((Empty 𝓛 mem run).pre to_empty)) goes_empty $
-      calls_at ! fm (Empty 𝓛 mem run) known-empty to_empty (no_more !) (λ w.
+      calls_at ! fm (Empty 𝓛 mem run) known-empty to_empty (no-more !) (λ w.
       use1 𝓛 (later (some (λ (r : List Process). (‵ ftrue ⊛ ‵ (Ra.own r (w ∷ []))) ⊛ raw (ensured 𝓛 empty.ended (empty.clauses 𝓛 mem run) tt tt tt r)))) (id⊢ 𝓤 _) $ await ! tt $ pick ! (λ r.
       split ! $ move ! (1 ∷ []) $ use1 𝓛 (raw (fact 𝓤 (r ≡ blank))) (empty_of 𝓛 mem run r) $ heard ! (r ≡ blank) (λ is.
       split ! $ drop ! $ peeks ! Ra (Is Ra) (shows 𝓛 Ra) r (w ∷ []) (λ rt.

@@ -2,7 +2,7 @@
 -- the row names.
 use Prim.Native.Nat.{ℕ, ◌+◌, ◌*◌, ◌≤◌, ◌<◌}
 use mathlib.Core.Path.{◌≡◌, sym, ◌∙◌}
-use mathlib.Core.Bool.{Bool, true, false, and_false}
+use mathlib.Core.Bool.{Bool, true, false, and-false}
 use mathlib.Core.List.{List}
 use native.Mathlib.Omega.{arith}
 use lib.Dec.{eqb}
@@ -29,7 +29,7 @@ module _ (stride : ℕ) (table log : List ℕ) (n w a k : ℕ) where
 
   early : get_or log k 0 ≤ a → false ≡ found
   unfolding is_swap is_swapped entry_at
-  early h = rw (le-ltb a (get_or log k 0) h) (sym (and_false (swap_verdict (get_or log (k + 3) 0))))
+  early h = rw (le-ltb a (get_or log k 0) h) (sym (and-false (swap_verdict (get_or log (k + 3) 0))))
 
   -- of a successful swap that is late enough the row that it names decides
   module _ (won : swap_verdict (get_or log (k + 3) 0) ≡ true) (later : a < get_or log k 0) where

@@ -1,7 +1,7 @@
 -- `is_bad_kind` meets its contract: 0 and 1 are kinds, 2 goes by the version, and there is no larger one.
 use Prim.Native.Nat.{ℕ, ◌≤◌, ◌<◌}
 use mathlib.Core.Path.{◌≡◌, refl, sym, ap, ◌∙◌}
-use mathlib.Core.Bool.{Bool, true, false, ◌&&◌, ◌||◌, and_false, or-true}
+use mathlib.Core.Bool.{Bool, true, false, ◌&&◌, ◌||◌, and-false, or-true}
 use native.Mathlib.Omega.{arith}
 use lib.Dec.{eqb, ltb}
 use borrow.Author.Tests.{ne_eqb, le-ltb, lt-ltb}
@@ -17,7 +17,7 @@ two : (version kind : ℕ) → kind ≡ 2 → eqb version 1 ≡ bad_kind version
 two version kind e = alone (eqb version 1) ∙ ap (bad_kind version) (sym e)
 
 low : (version kind : ℕ) → kind < 2 → bad_kind version kind ≡ false
-low version kind h = rw (ne_eqb kind 2 (λ e. omega arith), le-ltb 2 kind (omega arith), and_false (eqb version 1))
+low version kind h = rw (ne_eqb kind 2 (λ e. omega arith), le-ltb 2 kind (omega arith), and-false (eqb version 1))
 
 high : (version kind : ℕ) → 2 ≤ kind → (kind ≡ 2 → ⊥) → bad_kind version kind ≡ true
 high version kind h other = rw (lt-ltb 2 kind (let e = other in omega arith)) (or-true (eqb version 1 && eqb kind 2))
