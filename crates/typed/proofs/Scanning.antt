@@ -35,6 +35,9 @@ pub record Met (text : List ℕ) (s : State) (i : ℕ) (d : Step) : Type 0 where
   pub inside : i < length text
   pub step : d ≡ act s i (get_or text i 0)
 
+pub met : (text : List ℕ) (s : State) (i : ℕ) (d : Step) → i < length text → d ≡ act s i (get_or text i 0) → Met text s i d
+met text s i d h e = record { inside = h; step = e }
+
 module _ {text : List ℕ} {s : State} {i : ℕ} {d : Step} where
   turn : Met text s i d → Rest text s i ≡ go_on d (λ t. Rest text t (i + 1))
   unfolding reading

@@ -1,0 +1,12 @@
+-- `digit_of` meets its contract: below ten and from ten on.
+use Rattle.typed.specs.Chars.{digit_of}
+use borrow.Author.Tests.{lt-ltb, le-ltb}
+use Rattle.typed.proofs.chars.digit_of.Goals as goal
+
+pub returns-then-value-lt10 : goal.returns-then-value-lt10
+unfolding digit_of
+returns-then-value-lt10 c = simp (lt-ltb _ _ c.if-value-lt10.true)
+
+pub returns : goal.returns
+unfolding digit_of
+returns c = simp (le-ltb _ _ c.if-value-lt10.false)
