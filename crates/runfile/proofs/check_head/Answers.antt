@@ -1,0 +1,30 @@
+-- `check_head` meets its contract: the mark, then the counts as one part of the list of checks, then the length.
+use Rattle.std.proofs.Common.{◌≡◌, List, ℕ, [], ◌∷◌, true}
+use mathlib.Core.Path.{sym, ◌∙◌}
+use borrow.Author.Tests.{eq-eqb, ne_eqb}
+use Rattle.runfile.specs.Layout.{marked}
+use Rattle.runfile.specs.Order.{passes, stops}
+use Rattle.runfile.specs.Refusals.{found, no_room, first_of, count_checks}
+use Rattle.runfile.specs.declared.Checked.{Checked}
+use Rattle.runfile.specs.declared.Checked.TheVariants.{Accepted, Refused}
+use Rattle.runfile.specs.declared.Header.{Header}
+use Rattle.runfile.specs.declared.Refusal.TheVariants as refusal
+use Rattle.runfile.proofs.check_head.Goals as goal
+
+pub returns-in_default : goal.returns-in_default
+returns-in_default c =
+    let finds = found c.args.header c.args.file.now no_room in
+    let is_marked = sym c.has_mark.ensures ∙ c.if-not-has_mark.false in
+    c.in_default.is ∙ sym (rw is_marked (stops finds _ count_checks (refusal.Length ∷ []) _ _ (sym (c.check_counts-counts.ensures c.args.file.now) ∙ c.in_default.is)))
+
+pub returns-then-file-length_given : goal.returns-then-file-length_given
+returns-then-file-length_given c =
+    let finds = found c.args.header c.args.file.now no_room in
+    let is_marked = sym c.has_mark.ensures ∙ c.if-not-has_mark.false in
+    sym (rw (is_marked, passes finds _ count_checks (refusal.Length ∷ []) _ (sym (c.check_counts-counts.ensures c.args.file.now) ∙ c.in-Accepted.is), ne_eqb _ _ (rw c.length_given.ensures at c.if-file-length_given.true)))
+
+pub returns : goal.returns
+returns c =
+    let finds = found c.args.header c.args.file.now no_room in
+    let is_marked = sym c.has_mark.ensures ∙ c.if-not-has_mark.false in
+    sym (rw (is_marked, passes finds _ count_checks (refusal.Length ∷ []) _ (sym (c.check_counts-counts.ensures c.args.file.now) ∙ c.in-Accepted.is), eq-eqb _ _ (rw c.length_given.ensures at c.if-file-length_given.false)))
