@@ -16,8 +16,7 @@ use Rattle.runfile.specs.OperationLaws.{names_table, names_past}
 use Rattle.rows.specs.Entries.{swap_verdict, is_swapped}
 use Rattle.rows.specs.Log.{is_swap}
 use Rattle.rows.specs.Buffers.{entry_at}
-use Rattle.rows.proofs.log.is_swap_after.Statement.{statement}
-use Rattle.rows.proofs.log.is_swap_after.Tie as tie
+use Rattle.rows.proofs.log.is_swap_after.Goals as goal
 
 module _ (stride : ℕ) (table log : List ℕ) (n w a k : ℕ) where
   abbrev found : Bool
@@ -41,50 +40,26 @@ module _ (stride : ℕ) (table log : List ℕ) (n w a k : ℕ) where
     unfolding is_swap is_swapped entry_at
     there h x is = rw (won, lt-ltb a (get_or log k 0) later, names_table stride table n (get_or log (k + 2) 0) w h, is)
 
-returns : tie.Need-returns
-returns c = lost _ _ _ _ _ _ _ (simp c.if1.true)
+pub returns-then-verdict-eq0 : goal.returns-then-verdict-eq0
+returns-then-verdict-eq0 c = lost _ _ _ _ _ _ _ (simp c.if-verdict-eq0.true)
 
-returns-2 : tie.Need-returns-2
-returns-2 c = early _ _ _ _ _ _ _ (omega arith)
+pub returns-then-log-at : goal.returns-then-log-at
+returns-then-log-at c = early _ _ _ _ _ _ _ (omega arith)
 
-returns-3 : tie.Need-returns-3
-returns-3 c = lost _ _ _ _ _ _ _ (sym c.before.is-swapped.ensures ∙ not-true _ c.if3.true)
+pub returns-then-not-is_swapped : goal.returns-then-not-is_swapped
+returns-then-not-is_swapped c = lost _ _ _ _ _ _ _ (sym c.is_swapped.ensures ∙ c.if-not-is_swapped.true)
 
-cast-row : tie.Need-overflow-cast-row
-cast-row c = omega (arith, c.shared-slice-known5.given (c.before.before.before.before.before.before.before.before.before.before.args.i * 5 + 2))
+pub overflow_cast-row : goal.overflow_cast-row
+overflow_cast-row c = omega (arith, c.shared_slice_known-5-1.given (c.args.i * 5 + 2))
 
-returns-4 : tie.Need-returns-4
-returns-4 c = let d = c.before.before in past _ _ _ _ _ _ _ (sym d.before.is-swapped.ensures ∙ not-false _ d.if3.false) (omega (arith, d.before.before.if2.false)) c.if4.true
+pub returns-then-row-operations : goal.returns-then-row-operations
+returns-then-row-operations c = past _ _ _ _ _ _ _ (sym c.is_swapped.ensures ∙ c.if-not-is_swapped.false) (omega (arith, c.if-log-at.false)) c.if-row-operations.true
 
-word-of-row-requires : tie.Need-word-of-row-requires
-word-of-row-requires c κs =
-    let pre = c.before.before.before.before.before.before.before.before.before.before.before.requires in
-    has_row _ _ _ _ pre.size pre.whole c.if4.false
+pub word_of_row-requires : goal.word_of_row-requires
+word_of_row-requires c =
+    let pre = c.requires in
+    has_row _ _ _ _ pre.size pre.whole c.if-row-operations.false
 
-returns-5 : tie.Need-returns-5
-returns-5 c =
-    let e = c.before.before in
-    let d = e.before.before in
-    there _ _ _ _ _ _ _ (sym d.before.is-swapped.ensures ∙ not-false _ d.if3.false) (omega (arith, d.before.before.if2.false)) e.if4.false _ c.before.word-of-row.ensures
-
-pub is_swap_after_spec : {M : Type 1} → statement M
-is_swap_after_spec =
-    tie.close
-    (tie.spec
-    (λ c. search rules)
-    (λ c. search rules)
-    (λ c. search rules)
-    (λ c. search rules)
-    returns
-    (λ c. search rules)
-    (λ c. search rules)
-    returns-2
-    (λ c κs. search rules)
-    returns-3
-    (λ c. search rules)
-    (λ c. search rules)
-    (λ c. search rules)
-    cast-row
-    returns-4
-    word-of-row-requires
-    returns-5)
+pub returns : goal.returns
+returns c =
+    there _ _ _ _ _ _ _ (sym c.is_swapped.ensures ∙ c.if-not-is_swapped.false) (omega (arith, c.if-log-at.false)) c.if-row-operations.false _ c.word_of_row.ensures

@@ -1,0 +1,28 @@
+-- `first_swap_after` meets its contract. Invariant: what the search finds from row i on is what the whole search finds. Measure: the rows left.
+use Prim.Native.Nat.{ℕ, ◌≤◌, ◌-◌}
+use mathlib.Core.Path.{◌≡◌, refl}
+use mathlib.Core.List.{List}
+use native.Mathlib.Omega.{arith}
+use lib.ListN.{drop}
+use borrow.Author.Rules.{rules}
+use Rattle.runfile.specs.declared.Row.{Row}
+use Rattle.runfile.specs.Operations.{rows_from}
+use Rattle.rows.specs.declared.Sought.{Sought}
+use Rattle.rows.specs.Log.{first_swap}
+use Rattle.rows.specs.Buffers.{rows_of}
+use Rattle.rows.proofs.First.{hit, miss, over}
+use Rattle.rows.proofs.log.first_swap_after.Invariants.{Searching}
+use Rattle.rows.proofs.log.first_swap_after.Goals as goal
+
+pub loop-i-init : goal.loop-i-init
+loop-i-init c = record { within = search rules; kept = refl }
+
+pub returns-then-is_swap_after : goal.returns-then-is_swap_after
+returns-then-is_swap_after c = hit _ _ _ _ _ _ _ _ c.loop-i.invariant.kept _ c.loop-i-test.true c.is_swap_after.ensures c.if-is_swap_after.true
+
+pub loop-i-preserved : goal.loop-i-preserved
+loop-i-preserved c =
+    record { within = omega arith; kept = miss _ _ _ _ _ _ _ _ c.loop-i.invariant.kept _ c.loop-i-test.true c.is_swap_after.ensures c.if-is_swap_after.false }
+
+pub returns : goal.returns
+returns c = over _ _ _ _ _ _ _ _ c.loop-i.invariant.kept c.loop-i-test.false
