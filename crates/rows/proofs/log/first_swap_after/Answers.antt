@@ -1,17 +1,8 @@
 -- `first_swap_after` meets its contract. Invariant: what the search finds from row i on is what the whole search finds. Measure: the rows left.
-use Prim.Native.Nat.{ℕ, ◌≤◌, ◌-◌}
-use mathlib.Core.Path.{◌≡◌, refl}
-use mathlib.Core.List.{List}
+use mathlib.Core.Path.{refl}
 use native.Mathlib.Omega.{arith}
-use lib.ListN.{drop}
 use borrow.Author.Rules.{rules}
-use Rattle.runfile.specs.declared.Row.{Row}
-use Rattle.runfile.specs.Operations.{rows_from}
-use Rattle.rows.specs.declared.Sought.{Sought}
-use Rattle.rows.specs.Log.{first_swap}
-use Rattle.rows.specs.Buffers.{rows_of}
 use Rattle.rows.proofs.First.{hit, miss, over}
-use Rattle.rows.proofs.log.first_swap_after.Invariants.{Searching}
 use Rattle.rows.proofs.log.first_swap_after.Goals as goal
 
 pub loop-i-init : goal.loop-i-init

@@ -1,16 +1,13 @@
 -- `first_swap_after` meets its contract. Invariant: what the search finds from row i on is what the whole search finds. Measure: the rows left.
 use Prim.Native.Nat.{ℕ, ◌≤◌, ◌-◌}
-use mathlib.Core.Path.{◌≡◌, refl}
+use mathlib.Core.Path.{◌≡◌}
 use mathlib.Core.List.{List}
-use native.Mathlib.Omega.{arith}
 use lib.ListN.{drop}
-use borrow.Author.Rules.{rules}
 use Rattle.runfile.specs.declared.Row.{Row}
 use Rattle.runfile.specs.Operations.{rows_from}
 use Rattle.rows.specs.declared.Sought.{Sought}
 use Rattle.rows.specs.Log.{first_swap}
 use Rattle.rows.specs.Buffers.{rows_of}
-use Rattle.rows.proofs.First.{hit, miss, over}
 use Rattle.rows.proofs.log.first_swap_after.Given as goal
 
 pub record Searching (operations : List Row) (log : List ℕ) (rows : ℕ) (sought : Sought) (i : ℕ) : Type 0 where

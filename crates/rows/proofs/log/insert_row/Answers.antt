@@ -2,7 +2,6 @@
 use Prim.Native.Nat.{◌*◌, ◌-◌}
 use mathlib.Core.Path.{◌∙◌}
 use native.Mathlib.Omega.{arith}
-use borrow.Author.Rules.{rules}
 use Rattle.rows.proofs.Insert.{put_back}
 use Rattle.rows.proofs.log.insert_row.Goals as goal
 

@@ -7,8 +7,7 @@ use mathlib.Core.List.{List}
 use native.Mathlib.Omega.{arith}
 use lib.Dec.{eqb}
 use lib.ListN.{get_or}
-use borrow.Author.Rules.{rules}
-use borrow.Author.Tests.{le-ltb, lt-ltb, not-true, not-false}
+use borrow.Author.Tests.{le-ltb, lt-ltb}
 use Rattle.runfile.specs.Layout.{row_of_table}
 use Rattle.runfile.specs.Shares.{has_row}
 use Rattle.runfile.specs.Operations.{rows_from}

@@ -2,13 +2,9 @@
 -- larger position. Measure: the rows still to be looked at.
 use borrow.Author.Rules.{rules}
 use mathlib.Core.Path.{◌≡◌, refl, ◌∙◌, sym}
-use mathlib.Core.List.{List}
-use Prim.Native.Nat.{ℕ, ◌≤◌}
 use native.Mathlib.Omega.{arith}
 use Rattle.rows.specs.Log as log
-use Rattle.rows.specs.Buffers.{rows_of}
 use Rattle.rows.proofs.Place.{place_took, place_kept}
-use Rattle.rows.proofs.log.place_of.Invariants.{Searched}
 use Rattle.rows.proofs.log.place_of.Goals as goal
 
 pub loop-place-init : goal.loop-place-init

@@ -1,13 +1,10 @@
 -- `place_of` meets its contract. Invariant: the place among the first `place` rows is the place among all, since every row behind them is of
 -- larger position. Measure: the rows still to be looked at.
-use borrow.Author.Rules.{rules}
-use mathlib.Core.Path.{◌≡◌, refl, ◌∙◌, sym}
+use mathlib.Core.Path.{◌≡◌}
 use mathlib.Core.List.{List}
 use Prim.Native.Nat.{ℕ, ◌≤◌}
-use native.Mathlib.Omega.{arith}
 use Rattle.rows.specs.Log as log
 use Rattle.rows.specs.Buffers.{rows_of}
-use Rattle.rows.proofs.Place.{place_took, place_kept}
 use Rattle.rows.proofs.log.place_of.Given as goal
 
 pub record Searched (buffer : List ℕ) (rows position n : ℕ) : Type 0 where

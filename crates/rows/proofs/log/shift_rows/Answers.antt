@@ -1,12 +1,9 @@
 -- `shift_rows` meets its contract. Invariant: the numbers from i on have been moved, and none below. Measure: i.
 use borrow.Author.Rules.{rules}
-use mathlib.Core.Path.{◌≡◌, refl, ◌∙◌}
-use mathlib.Core.List.{List}
-use Prim.Native.Nat.{ℕ, ◌≤◌}
+use mathlib.Core.Path.{refl, ◌∙◌}
 use native.Mathlib.Omega.{arith}
-use lib.ListN.{length, length-set}
-use Rattle.rows.proofs.Shift.{moved, moved_none, moved_all, move_one}
-use Rattle.rows.proofs.log.shift_rows.Invariants.{Shifting}
+use lib.ListN.{length-set}
+use Rattle.rows.proofs.Shift.{moved_none, moved_all, move_one}
 use Rattle.rows.proofs.log.shift_rows.Goals as goal
 
 pub loop-i-init : goal.loop-i-init

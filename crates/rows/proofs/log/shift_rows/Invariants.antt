@@ -1,11 +1,9 @@
 -- `shift_rows` meets its contract. Invariant: the numbers from i on have been moved, and none below. Measure: i.
-use borrow.Author.Rules.{rules}
-use mathlib.Core.Path.{◌≡◌, refl, ◌∙◌}
+use mathlib.Core.Path.{◌≡◌}
 use mathlib.Core.List.{List}
 use Prim.Native.Nat.{ℕ, ◌≤◌}
-use native.Mathlib.Omega.{arith}
-use lib.ListN.{length, length-set}
-use Rattle.rows.proofs.Shift.{moved, moved_none, moved_all, move_one}
+use lib.ListN.{length}
+use Rattle.rows.proofs.Shift.{moved}
 use Rattle.rows.proofs.log.shift_rows.Given as goal
 
 pub record Shifting (before : List ℕ) (count : ℕ) (part : List ℕ) (i : ℕ) : Type 0 where
