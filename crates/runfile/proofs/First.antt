@@ -8,6 +8,12 @@ use native.Mathlib.Omega.{arith}
 use Rattle.runfile.specs.declared.Found.{Found}
 use Rattle.runfile.specs.declared.Found.TheVariants.{Nowhere, At}
 use Rattle.runfile.specs.Refusals.{first_found, found_if, first_offender}
+use Rattle.runfile.specs.Format.{within}
+use Rattle.runfile.specs.Layout.{row_place}
+
+-- row k of a table of rows that is in the file is in the file
+pub row_fits : (stride start k rows size : ℕ) → k < rows → row_place stride start rows ≤ size → row_place stride start k + stride ≤ size
+row_fits stride start k rows size h p = let w = within stride start k rows h in omega arith
 
 module _ (finds : ℕ → Found) (n : ℕ) where
   abbrev pub Left : ℕ → Found

@@ -12,7 +12,8 @@ use lib.Seq.{get_or-set_same, get_or-set_other}
 use borrow.Author.Tests.{eqb-true, eqb-false, ne_eqb}
 use Rattle.runfile.specs.Actions.{step, crash_all, none, action_of, action, named}
 use Rattle.runfile.specs.Ups.{up_as, up_by, up_from, is_up, up_next, idle_by, idles}
-use Rattle.runfile.specs.Refusals.{offends_at}
+use Rattle.runfile.specs.Refusals.{offends_at, first_offender}
+use Rattle.runfile.proofs.First.{From, miss}
 
 module _ (high : ℕ) (up : Bool) where
   pub idle-step : high ≡ 0 → false ≡ idle_by (action_of high) up
@@ -30,6 +31,12 @@ module _ (high : ℕ) (up : Bool) where
       go : (all : Bool) → false ≡ idle_by (cond all crash_all none) up
       go true = refl
       go false = refl
+
+-- a byte that is not idle leaves the search to the later ones
+pub missed : (start : ℕ) (schedule : List ℕ) (i : ℕ) → i < length schedule → offends_at idles schedule i ≡ false
+    → From (λ j. start + j) (offends_at idles schedule) (length schedule) i ≡ first_offender (λ j. start + j) (offends_at idles schedule) 0 (length schedule)
+    → From (λ j. start + j) (offends_at idles schedule) (length schedule) (i + 1) ≡ first_offender (λ j. start + j) (offends_at idles schedule) 0 (length schedule)
+missed start schedule i h e whole = miss (λ j. start + j) (offends_at idles schedule) (length schedule) i _ h e whole
 
 -- a step offends nowhere
 pub no_step : (schedule : List ℕ) (i : ℕ) → get_or schedule i 0 < 16 → offends_at idles schedule i ≡ false
