@@ -1,11 +1,9 @@
 -- `first_bad_byte` meets its contract. Invariant: what the search finds from i on is what the whole search finds. Measure: the bytes left.
-use Rattle.runfile.proofs.First.{From, begin, hit, miss, over}
-use Rattle.runfile.specs.Refusals.{first_offender, first_byte, bad_byte}
+use Rattle.runfile.proofs.First.{From}
+use Rattle.runfile.specs.Refusals.{first_offender, bad_byte}
 use lib.ListN.{length, get_or}
-use Prim.Native.Nat.{ℕ, ◌+◌, ◌≤◌, ◌-◌}
-use mathlib.Core.List.{List}
-use mathlib.Core.Path.{◌≡◌, sym, ◌∙◌}
-use borrow.Author.Rules.{rules}
+use Prim.Native.Nat.{◌+◌, ◌≤◌, ◌-◌}
+use mathlib.Core.Path.{◌≡◌}
 use Rattle.runfile.proofs.offends.first_bad_byte.Given as goal
 
 abbrev pub invariant-loop-i : goal.invariant-loop-i

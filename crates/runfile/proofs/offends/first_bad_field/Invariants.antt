@@ -1,19 +1,16 @@
 -- `first_bad_field` meets its contract. Before row k: what the search finds from row k on is what the whole search finds. Before field i of
 -- row k: what the search in the row finds from field i on is what it finds in the whole row. Measures: the rows left, the fields left.
-use Rattle.runfile.proofs.First.{Left, all_left, found_here, none_here, none_left, From, begin, hit, miss, over}
-use Rattle.runfile.specs.Refusals.{bad_in, first_found, bad_field_in, first_bad_field}
-use Rattle.runfile.specs.Format.{offset_of, within}
+use Rattle.runfile.proofs.First.{Left, From}
+use Rattle.runfile.specs.Refusals.{bad_in, first_found, bad_field_in}
+use Rattle.runfile.specs.Format.{offset_of}
 use Rattle.runfile.specs.Fields.{field_at}
 use Rattle.runfile.specs.Layout.{row_place}
 use Rattle.runfile.specs.declared.Header.{Header}
 use Rattle.runfile.specs.declared.Found.TheVariants.{Nowhere}
-use lib.ListN.{length}
-use native.Mathlib.Omega.{arith}
 use Prim.Native.Nat.{ℕ, ◌+◌, ◌≤◌, ◌-◌}
 use mathlib.Core.List.{List}
 use mathlib.Core.Bool.{Bool}
-use mathlib.Core.Path.{◌≡◌, refl, sym, ◌∙◌}
-use borrow.Author.Rules.{rules}
+use mathlib.Core.Path.{◌≡◌}
 use Rattle.runfile.proofs.offends.first_bad_field.Given as goal
 
 abbrev pub place : ℕ → ℕ → ℕ → ℕ → ℕ

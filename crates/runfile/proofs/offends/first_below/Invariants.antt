@@ -1,15 +1,9 @@
 -- `first_below` meets its contract. Invariant: what the search finds from row k on is what the search from row 1 finds. Measure: the rows left.
-use Rattle.runfile.proofs.Below.{is_below, not_below}
-use Rattle.runfile.proofs.First.{From, hit, miss, over}
-use Rattle.runfile.specs.Refusals.{first_offender, first_later_row, below}
+use Rattle.runfile.proofs.First.{From}
+use Rattle.runfile.specs.Refusals.{first_offender, below}
 use Rattle.runfile.specs.Layout.{row_place}
-use Rattle.runfile.specs.Format.{within, one_before}
-use lib.ListN.{length}
-use native.Mathlib.Omega.{arith}
-use Prim.Native.Nat.{ℕ, ◌+◌, ◌≤◌, ◌-◌}
-use mathlib.Core.List.{List}
-use mathlib.Core.Path.{◌≡◌, refl}
-use borrow.Author.Rules.{rules}
+use Prim.Native.Nat.{◌≤◌, ◌-◌}
+use mathlib.Core.Path.{◌≡◌}
 use Rattle.runfile.proofs.offends.first_below.Given as goal
 
 abbrev pub invariant-loop-k : goal.invariant-loop-k

@@ -5,7 +5,7 @@ use Rattle.runfile.proofs.Idle.{all_up, asked, missed, no_step, crashed, waked, 
 use Rattle.runfile.specs.Refusals.{offends_at, first_byte}
 use Rattle.runfile.specs.Ups.{idles}
 use lib.ListN.{length}
-use Prim.Native.Nat.{ℕ, ◌+◌, ◌<◌}
+use Prim.Native.Nat.{ℕ, ◌+◌}
 use mathlib.Core.List.{List}
 use mathlib.Core.Path.{refl, ◌∙◌}
 use native.Mathlib.Omega.{arith}

@@ -1,14 +1,9 @@
 -- `first_same` meets its contract. Invariant: what the search finds from row k on is what the whole search finds. Measure: the rows left.
-use Rattle.runfile.proofs.First.{From, begin, hit, miss, over}
-use Rattle.runfile.specs.Refusals.{first_offender, first_row, same}
+use Rattle.runfile.proofs.First.{From}
+use Rattle.runfile.specs.Refusals.{first_offender, same}
 use Rattle.runfile.specs.Layout.{row_place}
-use Rattle.runfile.specs.Format.{within}
-use lib.ListN.{length}
-use native.Mathlib.Omega.{arith}
-use Prim.Native.Nat.{ℕ, ◌+◌, ◌≤◌, ◌-◌}
-use mathlib.Core.List.{List}
-use mathlib.Core.Path.{◌≡◌, sym, ◌∙◌}
-use borrow.Author.Rules.{rules}
+use Prim.Native.Nat.{◌≤◌, ◌-◌}
+use mathlib.Core.Path.{◌≡◌}
 use Rattle.runfile.proofs.offends.first_same.Given as goal
 
 abbrev pub invariant-loop-k : goal.invariant-loop-k

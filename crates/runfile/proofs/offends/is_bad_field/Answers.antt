@@ -1,7 +1,6 @@
 -- `is_bad_field` meets its contract: the match has the line of each field.
 use Rattle.runfile.specs.Layout.{row_at}
 use Rattle.runfile.specs.Refusals.{bad_field}
-use borrow.Author.Rules.{rules}
 use Rattle.runfile.proofs.offends.is_bad_field.Goals as goal
 
 pub returns-in-Process : goal.returns-in-Process

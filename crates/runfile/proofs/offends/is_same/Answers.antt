@@ -2,7 +2,6 @@
 use Rattle.runfile.specs.Layout.{row_at}
 use Rattle.runfile.specs.Refusals.{same_fields}
 use mathlib.Core.Path.{sym, ◌∙◌}
-use borrow.Author.Rules.{rules}
 use Rattle.runfile.proofs.offends.is_same.Goals as goal
 
 pub returns-in-Read : goal.returns-in-Read
