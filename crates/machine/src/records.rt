@@ -78,6 +78,7 @@ pub fn start(process: Process, first: u16) -> Process
 }
 
 // No more than there are records.
+#[tactic(auto, unfolding(crate::specs::Promises::smaller))]
 fn at_most_sixteen(count: usize) -> usize
     ensures { AtMostSixteen count result }
 {

@@ -7,6 +7,7 @@ use super::{Answer, Maybe};
 use rows::Entry;
 
 // The verdict (R161).
+#[tactic(auto, unfolding(crate::specs::Steps::spoken))]
 fn verdict_of(said: Maybe) -> u32
     ensures { result ≡ (spoken said).verdict }
 {
@@ -22,6 +23,7 @@ fn verdict_of(said: Maybe) -> u32
 }
 
 // The value: 0 for all but a value read and the value before an advance (R162).
+#[tactic(auto, unfolding(crate::specs::Steps::spoken))]
 fn value_said(said: Maybe) -> u32
     ensures { result ≡ (spoken said).value }
 {
