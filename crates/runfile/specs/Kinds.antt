@@ -1,6 +1,6 @@
 -- The kinds of operation rows: a read, a compare and an advance (R11). Whatever goes by the kind is a table with a line for each kind, at the layer
 -- where it belongs; here, what a swap puts in.
-use Rattle.std.specs.Prelude.{ℕ, ◌+◌, ◌%◌, ◌^◌, ◌<◌, ◌≡◌, refl, cond, eqb}
+use Rattle.std.specs.Prelude.{ℕ, ◌+◌, ◌%◌, ◌^◌, cond, eqb}
 use Rattle.word.specs.Word.{width}
 use Rattle.runfile.specs.declared.Row.{Row}
 use Rattle.runfile.specs.declared.Kind.{Kind}

@@ -9,7 +9,6 @@ use Rattle.runfile.specs.declared.Kind.TheVariants.{Read, Compare, Advance}
 use Rattle.runfile.specs.declared.Field.{Field}
 use Rattle.runfile.specs.declared.Field.TheVariants as field
 use Rattle.runfile.specs.declared.Room.{Room}
-use Rattle.runfile.specs.declared.Refusal.TheVariants as refusal
 use Rattle.runfile.specs.declared.Found.TheVariants.{Nowhere}
 use Rattle.runfile.specs.declared.Checked.TheVariants.{Accepted}
 use Rattle.runfile.specs.Format.{least_head, offset_of, longest_file, longest_holds, longest_of_all, longest_most}

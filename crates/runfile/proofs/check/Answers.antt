@@ -6,15 +6,13 @@ use native.Mathlib.Omega.{arith}
 use lib.ListN.{take, drop, length-drop}
 use lib.Seq.{take_all}
 use Rattle.runfile.specs.Layout.{header_in, schedule_start, schedule_in}
-use Rattle.runfile.specs.Lawful.{LawfulFile, lawful_file, longest_any}
+use Rattle.runfile.specs.Lawful.{lawful_file, longest_any}
 use Rattle.runfile.specs.Order.{passes, stops, accepts}
 use Rattle.runfile.specs.Refusals.{found, first_byte, first_of, file_checks, later_checks, file_refusal, refusal_of}
 use Rattle.runfile.specs.Ups.{idles}
-use Rattle.runfile.specs.declared.Checked.{Checked}
 use Rattle.runfile.specs.declared.Checked.TheVariants.{Accepted}
 use Rattle.runfile.specs.declared.Found.{Found}
 use Rattle.runfile.specs.declared.Header.{Header}
-use Rattle.runfile.specs.declared.Refusal.TheVariants as refusal
 use Rattle.runfile.specs.declared.Room.{Room}
 use Rattle.runfile.proofs.check.Goals as goal
 

@@ -1,13 +1,10 @@
 -- `check_body` meets its contract: each search finds what its line of the table finds, and the first that finds something decides.
-use Rattle.std.proofs.Common.{rules, ◌≡◌, List, ℕ, ◌≤◌, ◌-◌, length}
+use Rattle.std.proofs.Common.{List, ℕ, ◌-◌, length}
 use mathlib.Core.Path.{sym, ◌∙◌}
 use native.Mathlib.Omega.{arith}
-use lib.ListN.{take, drop, length-drop}
+use lib.ListN.{drop, length-drop}
 use lib.Seq.{take_all}
-use Rattle.runfile.specs.Format.{RowSize, row_size, head_size, word_size, longest_of_all}
-use Rattle.runfile.specs.Layout.{row_place, schedule_start, length_given}
-use Rattle.runfile.specs.Refusals.{found, no_room}
-use Rattle.runfile.specs.declared.Refusal.TheVariants as refusal
+use Rattle.runfile.specs.Layout.{schedule_start}
 use Rattle.runfile.proofs.check_body.Goals as goal
 
 -- the rows that the header counts are in the file

@@ -1,5 +1,4 @@
 -- `check_file` meets its contract: a file that is long enough is refused by its head, or its head is lawful and the body decides.
-use Rattle.std.proofs.Common.{◌≡◌}
 use mathlib.Core.Path.{sym, ◌∙◌}
 use borrow.Author.Tests.{lt-ltb, le-ltb}
 use Rattle.runfile.specs.Layout.{header_in}

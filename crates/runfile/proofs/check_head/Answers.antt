@@ -1,13 +1,9 @@
 -- `check_head` meets its contract: the mark, then the counts as one part of the list of checks, then the length.
-use Rattle.std.proofs.Common.{◌≡◌, List, ℕ, [], ◌∷◌, true}
+use Rattle.std.proofs.Common.{[], ◌∷◌}
 use mathlib.Core.Path.{sym, ◌∙◌}
 use borrow.Author.Tests.{eq-eqb, ne_eqb}
-use Rattle.runfile.specs.Layout.{marked}
 use Rattle.runfile.specs.Order.{passes, stops}
-use Rattle.runfile.specs.Refusals.{found, no_room, first_of, count_checks}
-use Rattle.runfile.specs.declared.Checked.{Checked}
-use Rattle.runfile.specs.declared.Checked.TheVariants.{Accepted, Refused}
-use Rattle.runfile.specs.declared.Header.{Header}
+use Rattle.runfile.specs.Refusals.{found, no_room, count_checks}
 use Rattle.runfile.specs.declared.Refusal.TheVariants as refusal
 use Rattle.runfile.proofs.check_head.Goals as goal
 
