@@ -14,7 +14,8 @@ use Rattle.runfile.specs.Layout.{header_in, word_in, schedule_in}
 use Rattle.runfile.specs.Operations.{words_from, words_of, table_of}
 use Rattle.runfile.specs.OperationLaws.{length-words_from}
 use Rattle.runfile.specs.Refusals.{refusal_of}
-use Rattle.runfile.specs.Lawful.{Lawful, lawful}
+use Rattle.runfile.specs.Lawful.{Lawful}
+use Rattle.runfile.proofs.Lawful.{lawful}
 use Rattle.word.specs.Word.{bit}
 use Rattle.rows.specs.Buffers.{infront}
 use Rattle.run.specs.declared.Outcome.TheVariants as outcome

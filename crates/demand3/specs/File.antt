@@ -17,7 +17,8 @@ use Rattle.runfile.specs.Operations.{words_of, table_of, row_numbered}
 use Rattle.runfile.specs.OperationLaws.{length-words_from, length-rows_from, row_numbered-rows_from}
 use Rattle.runfile.specs.Refusals.{refusal_of}
 use Rattle.runfile.specs.Table.{row_of}
-use Rattle.runfile.specs.Lawful.{Lawful, lawful}
+use Rattle.runfile.specs.Lawful.{Lawful}
+use Rattle.runfile.proofs.Lawful.{lawful}
 use Rattle.word.specs.Word.{value}
 use Rattle.rows.specs.declared.Entry.{Entry}
 use Rattle.rows.specs.Buffers.{rows_of, infront}

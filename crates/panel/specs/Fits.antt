@@ -10,7 +10,8 @@ use Rattle.runfile.specs.declared.Checked.{Checked}
 use Rattle.runfile.specs.declared.Checked.TheVariants as checked
 use Rattle.runfile.specs.Operations.{table_of, first, count}
 use Rattle.runfile.specs.Refusals.{bad_byte, file_refusal}
-use Rattle.runfile.specs.Lawful.{lawful_file, neither}
+use Rattle.runfile.specs.Lawful.{neither}
+use Rattle.runfile.proofs.Lawful.{lawful_file}
 use Rattle.runfile.specs.Shares.{last_fits}
 use Rattle.machine.specs.declared.Process.{Process}
 use Rattle.machine.specs.declared.Opened.{Opened}

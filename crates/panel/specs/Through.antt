@@ -19,7 +19,8 @@ use Rattle.runfile.specs.Actions.{action, named}
 use Rattle.runfile.specs.Ups.{idle_by, idles}
 use Rattle.runfile.specs.Table.{byte_of}
 use Rattle.runfile.specs.Refusals.{refusal_of}
-use Rattle.runfile.specs.Lawful.{Lawful, LawfulByte, lawful, lawful_not_bad, not_idle_test, room-file}
+use Rattle.runfile.specs.Lawful.{Lawful, LawfulByte, lawful_not_bad, not_idle_test, room-file}
+use Rattle.runfile.proofs.Lawful.{lawful}
 use Rattle.rows.specs.Buffers.{flat, infront}
 use Rattle.rows.specs.BufferLaws.{rows_back, again, length-infront, length-flat}
 use Rattle.machine.specs.declared.Process.{Process}

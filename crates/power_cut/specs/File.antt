@@ -8,7 +8,8 @@ use Rattle.runfile.specs.declared.Checked.TheVariants.{Accepted}
 use Rattle.runfile.specs.Layout.{schedule_in}
 use Rattle.runfile.specs.Operations.{words_of, table_of}
 use Rattle.runfile.specs.Refusals.{refusal_of}
-use Rattle.runfile.specs.Lawful.{Lawful, lawful}
+use Rattle.runfile.specs.Lawful.{Lawful}
+use Rattle.runfile.proofs.Lawful.{lawful}
 use Rattle.machine.specs.Machine.{State, step}
 use Rattle.demand3.specs.File.{Bytes, plan}
 use Rattle.power_cut.specs.Statement as statement

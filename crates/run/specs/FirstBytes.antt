@@ -5,7 +5,8 @@ use Rattle.std.proofs.Common.{sym, subst, ◌∙◌, arith, take_all}
 use Rattle.runfile.specs.declared.Checked.{Checked}
 use Rattle.runfile.specs.declared.Checked.TheVariants.{Accepted, Refused}
 use Rattle.runfile.specs.Refusals.{refusal_of}
-use Rattle.runfile.specs.Lawful.{lawful, longest_any}
+use Rattle.runfile.specs.Lawful.{longest_any}
+use Rattle.runfile.proofs.Lawful.{lawful}
 use Rattle.runfile.specs.Enough.{enough, decided}
 use Rattle.run.specs.declared.Outcome.{Outcome}
 use Rattle.run.specs.Run.{room_of, EndsAs, Ends}

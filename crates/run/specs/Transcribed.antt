@@ -14,7 +14,8 @@ use Rattle.runfile.specs.Ups.{up_from, idles}
 use Rattle.runfile.specs.Operations.{words_of, table_of}
 use Rattle.runfile.specs.Refusals.{bad_field, same_fields, bad_byte, first_bad_field, first_row, first_later_row, first_byte, refusal_of}
 use Rattle.runfile.specs.Table.{row_of, zero_byte_of}
-use Rattle.runfile.specs.Transcribed.{Transcribes, SamePlace, CheckedAlike, checked_alike, tables_alike}
+use Rattle.runfile.specs.Transcribed.{Transcribes, SamePlace, CheckedAlike, tables_alike}
+use Rattle.runfile.proofs.Transcribed.{checked_alike}
 use Rattle.rows.specs.Buffers.{flat, infront}
 use Rattle.machine.specs.Machine.{State, begin, after}
 use Rattle.run.specs.declared.Outcome.{Outcome}

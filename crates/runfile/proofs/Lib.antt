@@ -4,3 +4,7 @@ pub mod Below
 pub mod Bytes
 pub mod Tables
 pub mod Idle
+pub mod Lawful
+pub mod Exactly
+pub mod Promises
+pub mod Transcribed

@@ -1,6 +1,6 @@
 -- What a file is like that is not refused: the facts that later layers use, read off the checks that found nothing.
-use Rattle.std.specs.Prelude.{ℕ, zero, suc, ◌+◌, ◌*◌, ◌-◌, ◌/◌, ◌%◌, ◌≤◌, ◌<◌, ◌≡◌, refl, ◌⊎◌, Bool, true, false, cond, not, ◌&&◌, ◌||◌, List, ltb, eqb, get_or, length, take}
-use Rattle.std.proofs.Common.{sym, ◌∙◌, ap, subst, inl, inr, true≢false, arith, length-drop, ltb-false, leb-false, eqb-true, eq-eqb, ne_eqb}
+use Rattle.std.specs.Prelude.{ℕ, zero, suc, ◌*◌, ◌/◌, ◌%◌, ◌≤◌, ◌<◌, ◌≡◌, refl, ◌⊎◌, Bool, true, false, cond, not, ◌&&◌, ◌||◌, List, ltb, eqb, get_or, length, take}
+use Rattle.std.proofs.Common.{◌∙◌, ap, inl, inr, true≢false, arith, ltb-false, leb-false, eqb-true, eq-eqb, ne_eqb}
 use Rattle.std.proofs.lemmas.Bool.{eqb-false, not-false, lt-leb}
 use Rattle.runfile.specs.declared.Header.{Header}
 use Rattle.runfile.specs.declared.Row.{Row}
@@ -9,18 +9,15 @@ use Rattle.runfile.specs.declared.Kind.TheVariants.{Read, Compare, Advance}
 use Rattle.runfile.specs.declared.Field.{Field}
 use Rattle.runfile.specs.declared.Field.TheVariants as field
 use Rattle.runfile.specs.declared.Room.{Room}
-use Rattle.runfile.specs.declared.Found.TheVariants.{Nowhere}
 use Rattle.runfile.specs.declared.Checked.TheVariants.{Accepted}
-use Rattle.runfile.specs.Format.{least_head, offset_of, longest_file, longest_holds, longest_of_all, longest_most}
-use Rattle.runfile.specs.Layout.{marked, header_in, rows_start, stride_of, row_place, schedule_start, schedule_in, length_given}
-use Rattle.runfile.specs.Fields.{fields, field_at, order_of, ordered}
+use Rattle.runfile.specs.Format.{least_head, longest_file, longest_holds, longest_of_all, longest_most}
+use Rattle.runfile.specs.Layout.{marked, header_in, schedule_in, length_given}
 use Rattle.runfile.specs.Actions.{Action, step, crash, wake, crash_all, none, action_of, action, named}
 use Rattle.runfile.specs.Ups.{is_up, idle_by, idles}
 use Rattle.runfile.specs.Kinds.{kind_of}
-use Rattle.runfile.specs.Refusals.{unknown_version, out_of_range, zero_old, zero_new, bad_field, bad_in, same_by, same_fields, bad_action, bad_byte, offends_at, bad_field_in, first_bad_field, first_row, first_later_row, first_byte, below, same, found, head_checks, body_checks, file_checks, later_checks, refusals_in_order, refusal_of, no_room, file_refusal}
+use Rattle.runfile.specs.Refusals.{unknown_version, out_of_range, zero_old, zero_new, bad_field, same_by, same_fields, bad_action, bad_byte, found, head_checks, file_checks, later_checks, refusals_in_order, refusal_of, no_room, file_refusal}
 use Rattle.runfile.specs.Table.{Marked, Same, SameFields, row_of, zero_byte_of, byte_of}
 use Rattle.runfile.specs.Order.{Clear, clear_parts, accepts, accepted, whole_clear}
-use Rattle.runfile.specs.Searches.{none_found, none_offends}
 
 -- refusals 2 to 8 are not given
 pub record LawfulHead (h : Header) (f : List ℕ) : Type 0 where
@@ -180,12 +177,6 @@ lawful_not_bad processes byte (of_one high low) = go (byte / 16) high
     go (suc (suc (suc n))) g = absurd (omega arith)
 lawful_not_bad processes byte (of_all_lem high low) = rw (high, low) refl
 
--- of a row: no field is faulty
-pub no_bad_field : (h : Header) (s : ℕ) (f : List ℕ) (start k : ℕ) → bad_field_in h s f start k ≡ Nowhere → (x : Field) → bad_in h s f start k x ≡ false
-no_bad_field h s f start k e x =
-    let o = ordered x in
-    subst (λ y. bad_in h s f start k y ≡ false) o.1 (none_offends (λ i. row_place s start k + offset_of s (field_at i)) (λ i. bad_in h s f start k (field_at i)) 0 (length fields) e (order_of x) (omega arith) (let b = o.0 in omega arith))
-
 pub not_idle_byte : (before : List ℕ) (byte : ℕ) → idles before byte ≡ false → NotIdle before byte
 unfolding idles
 not_idle_byte before byte e = record {
@@ -203,52 +194,6 @@ not_idle_test before byte n = go (action byte) (is_up before (named byte)) n.cra
     go wake up c w = w refl
     go crash_all up c w = refl
     go none up c w = refl
-
--- from checks 1 to 12 that found nothing, whatever the buffers are
-lawful_checks : (f : List ℕ) (room : Room) (h : Header) → h ≡ header_in f → Clear (found h f room) file_checks → LawfulFile h f
-unfolding first_bad_field first_row first_later_row first_byte same_fields
-lawful_checks f room h is c =
-    let b = clear_parts (found h f room) head_checks body_checks c.1 in
-    let head = lawful_head h f room b.0 in
-    let body = b.1 in
-    let start : ℕ = rows_start h in
-    let s : ℕ = stride_of h in
-    let steps : length (schedule_in h f) ≡ h.steps = simp length-drop (let x = head.exact in omega arith) in
-    record {
-      header = is;
-      long = ltb-false (length f) least_head (whole_clear (ltb (length f) least_head) c.0);
-      head = head;
-      rows = λ k l. lawful_row h (row_of h f k) (zero_byte_of h f k) (no_bad_field h s f start k (none_found (bad_field_in h s f start) 0 h.rows body.0 k (omega arith) (omega arith)));
-      ordered = λ k l. ltb-false (row_of h f (suc k)).process (row_of h f k).process (let back : suc k - 1 ≡ k = omega arith in rw back at (none_offends (row_place s start) (below s f start) 1 (h.rows - 1) body.1.0 (suc k) (omega arith) (omega arith)));
-      differ = λ k l. not_same (row_of h f k) (none_offends (row_place s start) (same s f start) 0 h.rows body.1.1.0 k (omega arith) (omega arith));
-      actions = λ i l. lawful_byte h.processes (byte_of h f i) (none_offends (λ j. schedule_start h + j) (offends_at (λ before. bad_byte h.processes) (schedule_in h f)) 0 (length (schedule_in h f)) body.1.1.1.0 i (omega arith) (omega arith));
-      schedule = steps;
-    }
-
-pub lawful_file : (f : List ℕ) (h : Header) → file_refusal f ≡ Accepted h → LawfulFile h f
-unfolding file_refusal
-lawful_file f h e =
-    let g : Header = header_in f in
-    let a = accepts (found g f no_room) g file_checks h e in
-    lawful_checks f no_room h (sym a.0) (rw a.0 at a.1)
-
-pub lawful : (f : List ℕ) (room : Room) (h : Header) → refusal_of f room ≡ Accepted h → Lawful h f room
-unfolding refusal_of first_byte
-lawful f room h e =
-    let g : Header = header_in f in
-    let a = accepts (found g f room) g refusals_in_order h e in
-    let finds = found h f room in
-    let c : Clear finds refusals_in_order = rw a.0 at a.1 in
-    let d = clear_parts finds file_checks later_checks c in
-    let file = lawful_checks f room h (sym a.0) d.0 in
-    let rooms = d.1.1 in
-    record {
-      file = file;
-      not_idle = λ i l. not_idle_byte (take i (schedule_in h f)) (byte_of h f i) (none_offends (λ j. schedule_start h + j) (offends_at idles (schedule_in h f)) 0 (length (schedule_in h f)) d.1.0 i (omega arith) (let s = file.schedule in omega arith));
-      words_room = ltb-false room.words h.words (whole_clear (ltb room.words h.words) rooms.0);
-      log_room = ltb-false room.log (5 * h.steps) (whole_clear (ltb room.log (5 * h.steps)) rooms.1.0);
-      answers_room = ltb-false room.answers (5 * h.steps) (whole_clear (ltb room.answers (5 * h.steps)) rooms.1.1.0);
-    }
 
 -- a file that is accepted with some buffers is not refused by 1 to 12
 pub room-file : (f : List ℕ) (room : Room) (h : Header) → refusal_of f room ≡ Accepted h → file_refusal f ≡ Accepted h

@@ -13,7 +13,6 @@ pub mod Table
 pub mod Searches
 pub mod Order
 pub mod Lawful
-pub mod Exactly
 pub mod Promises
 pub mod Instances
 pub mod Enough

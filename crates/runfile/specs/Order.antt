@@ -1,14 +1,16 @@
 -- Laws of `first_of`, by which the first check that finds something decides (R32): where the first part of a list of checks finds nothing the
--- rest decides, else the first part has decided; and where all is accepted, no check of the list found anything. By induction on the list.
-use Rattle.std.specs.Prelude.{ℕ, ◌≡◌, refl, Bool, false, List, [], ◌∷◌, ◌++◌}
+-- rest decides, else the first part has decided; and where all is accepted, no check of the list found anything. By induction on the list. And where
+-- each check stands in the list of all.
+use Rattle.std.specs.Prelude.{ℕ, suc, ◌<◌, ◌≡◌, refl, Bool, false, List, [], ◌∷◌, ◌++◌, get_or, length}
 use Rattle.std.proofs.Common.{arith}
 use Rattle.runfile.specs.declared.Header.{Header}
 use Rattle.runfile.specs.declared.Refusal.{Refusal}
+use Rattle.runfile.specs.declared.Refusal.TheVariants as refusal
 use Rattle.runfile.specs.declared.Found.{Found}
 use Rattle.runfile.specs.declared.Found.TheVariants.{Nowhere, At}
 use Rattle.runfile.specs.declared.Checked.TheVariants.{Accepted, Refused}
 use Rattle.runfile.specs.Searches.{not_found}
-use Rattle.runfile.specs.Refusals.{whole, or_else, first_of}
+use Rattle.runfile.specs.Refusals.{whole, or_else, first_of, place_of, refusals_in_order}
 
 pub refused_accepted : {why : Refusal} {at : ℕ} {h : Header} → Refused why at ≡ Accepted h → ⊥
 refused_accepted e = let z : ◌≡◌ {A = ℕ} 0 1 = cc in omega arith
@@ -54,3 +56,30 @@ module _ (finds : Refusal → Found) (h : Header) where
 
 pub whole_clear : (t : Bool) → whole t ≡ Nowhere → t ≡ false
 whole_clear t e = not_found t 0 e
+
+-- the checks stand in the list at their places, one by one
+abbrev pub Placed : ℕ → List Refusal → Type 0
+Placed n [] = Unit
+Placed n (why ∷ later) = (place_of why ≡ n) × Placed (suc n) later
+
+pub in_order : Placed 0 refusals_in_order
+in_order = (refl, (refl, (refl, (refl, (refl, (refl, (refl, (refl, (refl, (refl, (refl, (refl, (refl, (refl, (refl, (refl, tt))))))))))))))))
+
+-- so a place in the list names one check, and each check has one
+pub placed : (why : Refusal) → (get_or refusals_in_order (place_of why) refusal.Short ≡ why) × (place_of why < length refusals_in_order)
+placed refusal.Short = (refl, omega arith)
+placed refusal.Mark = (refl, omega arith)
+placed refusal.Version = (refl, omega arith)
+placed refusal.Processes = (refl, omega arith)
+placed refusal.Words = (refl, omega arith)
+placed refusal.Rows = (refl, omega arith)
+placed refusal.Steps = (refl, omega arith)
+placed refusal.Length = (refl, omega arith)
+placed refusal.Row = (refl, omega arith)
+placed refusal.Order = (refl, omega arith)
+placed refusal.Same = (refl, omega arith)
+placed refusal.Action = (refl, omega arith)
+placed refusal.Idle = (refl, omega arith)
+placed refusal.WordsRoom = (refl, omega arith)
+placed refusal.LogRoom = (refl, omega arith)
+placed refusal.AnswersRoom = (refl, omega arith)

@@ -1,6 +1,6 @@
 -- The contracts of the public functions, and that each leaves no second outcome. A contract of one equation, or of one with a bound beside it for the
 -- caller's arithmetic, is that under a name, so that a caller rewrites with it as it stands.
-use Rattle.std.specs.Prelude.{ℕ, ◌<◌, ◌≡◌, Bool, cond, List, ◌↔◌, ltb, length}
+use Rattle.std.specs.Prelude.{ℕ, ◌<◌, ◌≡◌, Bool, cond, List, ltb, length}
 use Rattle.std.proofs.Common.{sym, ◌∙◌}
 use Rattle.runfile.specs.declared.Room.{Room}
 use Rattle.runfile.specs.declared.Row.{Row}
@@ -8,7 +8,6 @@ use Rattle.runfile.specs.declared.Kind.{Kind}
 use Rattle.runfile.specs.declared.Refusal.{Refusal}
 use Rattle.runfile.specs.declared.Checked.{Checked}
 use Rattle.runfile.specs.declared.Header.{Header}
-use Rattle.runfile.specs.declared.Checked.TheVariants.{Accepted, Refused}
 use Rattle.runfile.specs.Format.{least_head, RowSize}
 use Rattle.runfile.specs.Layout.{header_in, u32_at, word_in, row_of_table, stride_of, rows_start, schedule_start}
 use Rattle.runfile.specs.Kinds.{kind_of}
@@ -17,9 +16,6 @@ use Rattle.runfile.specs.Ups.{idle_by}
 use Rattle.runfile.specs.Operations.{count}
 use Rattle.runfile.specs.Shares.{Counted, Summed, sum_to, sixteen_one}
 use Rattle.runfile.specs.Refusals.{number_of, bad_byte, refusal_of, file_refusal}
-use Rattle.runfile.specs.Table.{Given, Earlier}
-use Rattle.runfile.specs.Exactly.{exactly}
-use Rattle.runfile.specs.Lawful.{Lawful, LawfulFile, lawful, lawful_file}
 
 -- `check(file, room)`, for every byte string and every three lengths (R240)
 pub record Decides (f : List ℕ) (room : Room) (r : Checked) : Type 0 where
@@ -137,16 +133,3 @@ counted_one rows = sixteen_one (count rows)
 
 pub summed_one : (counts : List ℕ) (r q : List ℕ) → Summed counts r → Summed counts q → r ≡ q
 summed_one counts = sixteen_one (sum_to counts)
-
--- what `check` promises, number by number: it answers `why` at `at` exactly when the table's line says so and no earlier line does
-pub decides_exactly : (f : List ℕ) (room : Room) (r : Checked) → Decides f room r → (why : Refusal) (at : ℕ)
-    → (r ≡ Refused why at)
-    ↔ (Given (header_in f) f room why at × ((e : Refusal) → Earlier e why → (p : ℕ) → Given (header_in f) f room e p → ⊥))
-decides_exactly f room r d why at = let x = exactly f room why at in (λ e. x.0 (sym d.result ∙ e), λ g. d.result ∙ x.1 g)
-
--- and what it accepts is lawful, with the header that it hands over
-pub decides_lawful : (f : List ℕ) (room : Room) (r : Checked) → Decides f room r → (h : Header) → r ≡ Accepted h → Lawful h f room
-decides_lawful f room r d h e = lawful f room h (sym d.result ∙ e)
-
-pub decides_file_lawful : (f : List ℕ) (r : Checked) → DecidesFile f r → (h : Header) → r ≡ Accepted h → LawfulFile h f
-decides_file_lawful f r d h e = lawful_file f h (sym d ∙ e)

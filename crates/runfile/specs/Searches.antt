@@ -4,7 +4,7 @@ use Rattle.std.specs.Prelude.{ℕ, zero, suc, ◌+◌, ◌≤◌, ◌<◌, ◌�
 use Rattle.std.proofs.Common.{◌∙◌, arith, ltb-true, ltb-false}
 use Rattle.runfile.specs.declared.Found.{Found}
 use Rattle.runfile.specs.declared.Found.TheVariants.{Nowhere, At}
-use Rattle.runfile.specs.Refusals.{or_later, first_found, found_if, first_offender}
+use Rattle.runfile.specs.Refusals.{or_later, first_found, found_if}
 
 -- what one test finds
 pub not_found : (t : Bool) (place : ℕ) → found_if t place ≡ Nowhere → t ≡ false
@@ -68,6 +68,3 @@ module _ (finds : ℕ → Found) where
           let same : k ≡ m.which = (let h = ltb-false k m.which l in let a = m.after in omega arith) in
           let here : finds k ≡ At at = rw same m.found in
           rw here refl
-
-pub none_offends : (place : ℕ → ℕ) (offends : ℕ → Bool) (k n : ℕ) → first_offender place offends k n ≡ Nowhere → (j : ℕ) → k ≤ j → j < k + n → offends j ≡ false
-none_offends place offends k n e j a b = not_found (offends j) (place j) (none_found (λ i. found_if (offends i) (place i)) k n e j a b)

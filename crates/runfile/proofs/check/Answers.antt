@@ -6,7 +6,8 @@ use native.Mathlib.Omega.{arith}
 use lib.ListN.{take, drop, length-drop}
 use lib.Seq.{take_all}
 use Rattle.runfile.specs.Layout.{header_in, schedule_start, schedule_in}
-use Rattle.runfile.specs.Lawful.{lawful_file, longest_any}
+use Rattle.runfile.specs.Lawful.{longest_any}
+use Rattle.runfile.proofs.Lawful.{lawful_file}
 use Rattle.runfile.specs.Order.{passes, stops, accepts}
 use Rattle.runfile.specs.Refusals.{found, first_byte, first_of, file_checks, later_checks, file_refusal, refusal_of}
 use Rattle.runfile.specs.Ups.{idles}

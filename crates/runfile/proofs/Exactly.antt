@@ -31,9 +31,10 @@ use Rattle.runfile.specs.Kinds.{kind_of}
 use Rattle.runfile.specs.Refusals.{place_of, out_of_range, zero_old, zero_new, bad_field, bad_in, same_by, same_fields, bad_action, bad_byte, found_if, first_offender, bad_field_in, first_bad_field, first_row, first_later_row, first_byte, whole, found, or_else, first_of, refusals_in_order, refusal_of}
 use Rattle.runfile.specs.Table.{Marked, BadField, BadIn, ZeroOld, ZeroNew, Same, SameFields, FirstBadField, BadByte, IdleByte, First, row_of, zero_byte_of, byte_of, Given, Earlier}
 use Rattle.runfile.specs.Table as table
-use Rattle.runfile.specs.Lawful.{LawfulByte, NotIdle, of_one, of_all_lem, has_mark, in_range, neither, not_both, no_bad_field, lawful_byte, not_idle_byte, high-action, lawful}
+use Rattle.runfile.specs.Lawful.{LawfulByte, NotIdle, of_one, of_all_lem, has_mark, in_range, neither, not_both, lawful_byte, not_idle_byte, high-action}
+use Rattle.runfile.proofs.Lawful.{no_bad_field, lawful}
 use Rattle.runfile.specs.Searches.{not_found, is_found, Earliest, earliest, found_earliest, found_none}
-use Rattle.runfile.specs.Order.{Clear, accepts, accepted}
+use Rattle.runfile.specs.Order.{Clear, accepts, accepted, Placed, in_order, placed}
 
 -- a test says what a proposition says
 record Tells (t : Bool) (Bad : Type 0) : Type 0 where
@@ -281,33 +282,7 @@ clear_iff h f room why = (λ e at g. lost at (sym e ∙ (line h f room why at).1
     go Nowhere q no_place = refl
     go (At at) q no_place = absurd (no_place at ((line h f room why at).0 q))
 
--- the checks stand in the list at their places, one by one
-abbrev pub Placed : ℕ → List Refusal → Type 0
-Placed n [] = Unit
-Placed n (why ∷ later) = (place_of why ≡ n) × Placed (suc n) later
-
-pub in_order : Placed 0 refusals_in_order
-in_order = (refl, (refl, (refl, (refl, (refl, (refl, (refl, (refl, (refl, (refl, (refl, (refl, (refl, (refl, (refl, (refl, tt))))))))))))))))
-
--- so a place in the list names one check, and each check has one
-pub placed : (why : Refusal) → (get_or refusals_in_order (place_of why) refusal.Short ≡ why) × (place_of why < length refusals_in_order)
-placed refusal.Short = (refl, omega arith)
-placed refusal.Mark = (refl, omega arith)
-placed refusal.Version = (refl, omega arith)
-placed refusal.Processes = (refl, omega arith)
-placed refusal.Words = (refl, omega arith)
-placed refusal.Rows = (refl, omega arith)
-placed refusal.Steps = (refl, omega arith)
-placed refusal.Length = (refl, omega arith)
-placed refusal.Row = (refl, omega arith)
-placed refusal.Order = (refl, omega arith)
-placed refusal.Same = (refl, omega arith)
-placed refusal.Action = (refl, omega arith)
-placed refusal.Idle = (refl, omega arith)
-placed refusal.WordsRoom = (refl, omega arith)
-placed refusal.LogRoom = (refl, omega arith)
-placed refusal.AnswersRoom = (refl, omega arith)
-
+-- a place in the list names one check
 pub one_place : (a b : Refusal) → place_of a ≡ place_of b → a ≡ b
 one_place a b e = sym (placed a).0 ∙ (ap (λ n. get_or refusals_in_order n refusal.Short) e ∙ (placed b).0)
 
