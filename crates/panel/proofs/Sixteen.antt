@@ -19,7 +19,7 @@ use Rattle.runfile.specs.Actions.{Action, step as steps, crash as crashes, wake 
 use Rattle.runfile.specs.Ups.{idle_by}
 use Rattle.runfile.specs.Operations.{table_of}
 use Rattle.runfile.specs.Refusals.{bad_action, bad_byte, file_refusal}
-use Rattle.runfile.specs.Lawful.{lawful_file}
+use Rattle.runfile.proofs.Lawful.{lawful_file}
 use Rattle.machine.specs.declared.Process.{Process}
 use Rattle.rows.specs.Buffers.{rows_of, flat, infront}
 use Rattle.machine.specs.Records.{nobody, is_awake}

@@ -1,6 +1,6 @@
 -- `open` meets its contract: a file that the check accepts is lawful, so its words are where they are read.
 use mathlib.Core.Path.{sym, ◌∙◌}
-use Rattle.runfile.specs.Lawful.{lawful_file}
+use Rattle.runfile.proofs.Lawful.{lawful_file}
 use borrow.Author.Rules.{rules}
 use Rattle.bench_panel.proofs.open.Statement.{statement}
 use Rattle.bench_panel.proofs.open.Tie as tie

@@ -1,5 +1,5 @@
 -- `run` meets its contract: what the check refuses leaves everything as it was, and what it accepts is lawful.
-use Rattle.runfile.specs.Promises.{decides_lawful}
+use Rattle.runfile.proofs.Promises.{decides_lawful}
 use mathlib.Core.Path.{refl, sym, ◌∙◌}
 use borrow.Author.Rules.{rules}
 use Rattle.run.proofs.run.Statement.{statement}

@@ -2,7 +2,7 @@
 use Prim.Native.Nat.{ℕ}
 use mathlib.Core.Path.{◌≡◌, refl, sym, ◌∙◌}
 use Rattle.runfile.specs.declared.Header.{Header}
-use Rattle.runfile.specs.Lawful.{lawful_file}
+use Rattle.runfile.proofs.Lawful.{lawful_file}
 use Rattle.panel.specs.declared.Why.{Why}
 use Rattle.panel.specs.declared.Verdict.{Verdict}
 use Rattle.panel.specs.declared.Verdict.TheVariants.{Fine, Not}
