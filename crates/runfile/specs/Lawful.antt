@@ -1,4 +1,5 @@
--- What a file is like that is not refused: the facts that later layers use, read off the checks that found nothing.
+-- What a file is like that is not refused: the facts that later layers use, read off the checks that found nothing. For the whole list of checks
+-- proofs/Lawful.antt does it (`lawful`, `lawful_file`).
 use Rattle.std.specs.Prelude.{ℕ, zero, suc, ◌*◌, ◌/◌, ◌%◌, ◌≤◌, ◌<◌, ◌≡◌, refl, ◌⊎◌, Bool, true, false, cond, not, ◌&&◌, ◌||◌, List, ltb, eqb, get_or, length, take}
 use Rattle.std.proofs.Common.{◌∙◌, ap, inl, inr, true≢false, arith, ltb-false, leb-false, eqb-true, eq-eqb, ne_eqb}
 use Rattle.std.proofs.lemmas.Bool.{eqb-false, not-false, lt-leb}

@@ -1,5 +1,5 @@
 -- What is refused, as a computation (R30 to R56). `found` is the table, a line for each refusal; Table.antt says the same in propositions,
--- and Exactly.antt proves that the two agree.
+-- and proofs/Exactly.antt proves that the two agree.
 use Rattle.std.specs.Prelude.{ℕ, zero, suc, ◌+◌, ◌*◌, ◌-◌, Bool, true, false, not, ◌&&◌, ◌||◌, List, [], ◌∷◌, ◌++◌, leb, ltb, eqb, get_or, length, take}
 use Rattle.runfile.specs.declared.Header.{Header}
 use Rattle.runfile.specs.declared.Row.{Row}

@@ -1,5 +1,5 @@
--- A file of version 1 and its transcription to version 2 are checked alike: both accepted, or both refused by the same number, at places that are
--- those of the same row, field or schedule byte (`checked_alike`). Check by check the two searches find alike, then the list of checks does.
+-- What it is that a file of version 1 and its transcription to version 2 are checked alike: both accepted, or both refused by the same number, at
+-- places that are those of the same row, field or schedule byte. That they are is `checked_alike` (proofs/Transcribed.antt); and their tables are alike.
 use Rattle.std.specs.Prelude.{ℕ, zero, suc, ◌+◌, ◌*◌, ◌≤◌, ◌<◌, ◌≡◌, List, ◌∷◌}
 use Rattle.std.proofs.Math.Path.{refl, ap}
 use Rattle.std.proofs.Common.{sym, ap₂, ◌∙◌, arith, zero-mul, suc-mul}
