@@ -1,2 +1,10 @@
 pub mod Down
 pub mod Entering
+pub mod Choices
+pub mod Laws
+pub mod Limits
+pub mod Awake
+pub mod Cut
+pub mod Keeping
+pub mod Absent
+pub mod Widths

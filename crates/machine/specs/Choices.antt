@@ -1,9 +1,9 @@
 -- Recovery goes by the own bit. What V1, V2 and V3 decide depends on nothing but the stored answer, the checkpoint, the kept bit and the own flip
 -- bit of the word: not on the row, nor on the word's value, nor on the other bits, nor on when the step is made. And what V4 stores depends on nothing
 -- but the row's kind and, of an advance, the kept value: not on the word, which others may have changed since.
-use Rattle.std.specs.Prelude.{ℕ, ◌≡◌, Bool, cond, ◌⊎◌}
+use Rattle.std.specs.Prelude.{ℕ, ◌≡◌, Bool, cond}
 use Rattle.std.proofs.Math.Path.{refl, ap}
-use Rattle.std.proofs.Common.{sym, ◌∙◌, true≢false, inl, inr, ⊎_elim}
+use Rattle.std.proofs.Common.{◌∙◌}
 use Rattle.std.proofs.Math.Bool.{true, false}
 use Rattle.runfile.specs.declared.Row.{Row}
 use Rattle.runfile.specs.declared.Kind.TheVariants.{Compare, Advance}
@@ -28,12 +28,6 @@ pub record LeadsTo (r : Process) (stage : Stage) (u : Turn) : Type 0 where
   pub tried_at : ℕ
   pub answer : Maybe
   pub is : u ≡ Quiet (with_status (Busy stage seen read_at tried_at answer) r)
-
-same_or_not : (b c : Bool) → (b ≡ c) ⊎ (b ≡ c → ⊥)
-same_or_not true true = inl refl
-same_or_not true false = inr true≢false
-same_or_not false true = inr (λ e. true≢false (sym e))
-same_or_not false false = inl refl
 
 -- at whatever row, with whatever in hand
 module _ (row : Row) (p t now : ℕ) (r : Process) (seen read_at tried_at : ℕ) (answer : Maybe) where
@@ -69,21 +63,6 @@ module _ (row : Row) (p t now : ℕ) (r : Process) (seen read_at tried_at : ℕ)
       other true false n = refl
       other false true n = refl
       other false false n = absurd (n refl)
-
-  -- and there is no third way
-  pub v3_either : LeadsTo r V4 (decide row p t now r V3 seen read_at tried_at answer) ⊎ LeadsTo r V6 (decide row p t now r V3 seen read_at tried_at answer)
-  v3_either = ⊎_elim (λ same. inl (v3_same same)) (λ n. inr (v3_other n)) (same_or_not (bit p now) r.kept.bit)
-
--- So two words with the same own bit lead to the same stage, whatever their values and other bits, at whatever rows and positions, for whatever two
--- records with the same kept bit
-pub by_own_bit : (p : ℕ) (row row' : Row) (t t' now now' : ℕ) (r r' : Process) (seen read_at tried_at seen' read_at' tried_at' : ℕ) (answer answer' : Maybe)
-    → r.kept.bit ≡ r'.kept.bit → bit p now ≡ bit p now'
-    → (stage : Stage) × (LeadsTo r stage (decide row p t now r V3 seen read_at tried_at answer) × LeadsTo r' stage (decide row' p t' now' r' V3 seen' read_at' tried_at' answer'))
-by_own_bit p row row' t t' now now' r r' seen read_at tried_at seen' read_at' tried_at' answer answer' k e =
-    ⊎_elim
-    (λ same. (V4, (v3_same row p t now r seen read_at tried_at answer same, v3_same row' p t' now' r' seen' read_at' tried_at' answer' (sym e ∙ same ∙ k))))
-    (λ n. (V6, (v3_other row p t now r seen read_at tried_at answer n, v3_other row' p t' now' r' seen' read_at' tried_at' answer' (λ y. n (e ∙ y ∙ sym k)))))
-    (same_or_not (bit p now) r.kept.bit)
 
 -- V4 stores what its swap said, by the kept value, whatever the word is by then (R124)
 module _ (row : Row) (p t now : ℕ) (r : Process) (seen read_at tried_at : ℕ) (answer : Maybe) where

@@ -15,7 +15,6 @@ use Rattle.runfile.specs.declared.Row.{Row}
 use Rattle.runfile.specs.Actions.{Action, step as steps, crash as crashes, wake as wakes, crash_all as crashes_all, none as idles, action, named}
 use Rattle.runfile.specs.Kinds.{kind_of}
 use Rattle.runfile.specs.Operations.{row_numbered, first, count}
-use Rattle.runfile.specs.Shares.{last_fits}
 use Rattle.rows.specs.declared.Entry.{Entry}
 use Rattle.machine.specs.declared.Process.{Process}
 use Rattle.machine.specs.declared.Stage.{Stage}
@@ -26,11 +25,11 @@ use Rattle.machine.specs.declared.Opened.{Opened}
 use Rattle.machine.specs.declared.Opened.TheVariants.{Closed, Open}
 use Rattle.machine.specs.declared.Status.{Status}
 use Rattle.machine.specs.declared.Status.TheVariants.{Down, Idle, N2, N3, Busy}
-use Rattle.machine.specs.Records.{fresh, with_status, with_stored, with_checkpoint, Announcing, InWork, started, crashed, waked, woken_up, row_open, WorkOpen}
+use Rattle.machine.specs.Records.{fresh, with_status, with_stored, with_checkpoint, Announcing, InWork, started, crashed, waked, row_open, WorkOpen}
 use Rattle.machine.specs.Turn.{Still, Quiet}
 use Rattle.machine.specs.Steps.{decide, decide_in, at_work, step_turn, step_turn_in}
 use Rattle.machine.specs.KindLaws.{read_leads, lost_leads, tried_leads, stored_leads}
-use Rattle.machine.specs.Machine.{State, process_of, turn, turn_in, apply, applied, proc_at, act, act_in, step, step_in, after, after_in, begin}
+use Rattle.machine.specs.Machine.{State, process_of, turn, turn_in, apply, applied, proc_at, act, act_in, step, step_in, after, after_in}
 
 pub after_join : (rows : List Row) (t : ℕ) (a b : List ℕ) (s : State) → after rows t (a ++ b) s ≡ after rows (t + length a) b (after rows t a s)
 unfolding after_in
@@ -161,38 +160,11 @@ module _ (rows : List Row) (Q : ℕ → Process → Type 0)
   unfolding step_in Each
   each_step t byte s h = each_act t (action byte) (named byte) s h
 
--- The same after a schedule, for what is kept by whatever a step may make of a record.
-module _ (rows : List Row) (Q : ℕ → Process → Type 0)
-    (steps-keep : (p : ℕ) (r next : Process) → Q p r → Turned rows p r next → Q p next)
-    (crashes-keep : (p : ℕ) (r : Process) → Q p r → Q p (crashed r))
-    (wakes-keep : (p : ℕ) (r : Process) → Q p r → Q p (waked r r.status)) where
-  pub each_after : (t : ℕ) (bytes : List ℕ) (s : State) → ((q : ℕ) → Q q (proc_at q s)) → (q : ℕ) → Q q (proc_at q (after rows t bytes s))
-  unfolding after_in
-  each_after t [] s h = h
-  each_after t (byte ∷ bytes) s h =
-      each_after (suc t) bytes (step rows t byte s)
-      (each_step rows Q (λ p t words log r x. steps-keep p r _ x (turned rows p t words log r)) crashes-keep wakes-keep t byte s h)
-
 -- an open row is a row of the file, in the midst of work a row is open, and in the midst of the announcement p has rows left
 pub record Sane (rows : List Row) (p : ℕ) (r : Process) : Type 0 where
   pub in_file : (k : ℕ) → r.opened ≡ Open k → k < length rows
   pub works : WorkOpen r.status r.opened
   pub left : Announcing r.status → r.begun < count rows p
-
--- in the midst of work no row is announced
-no_store : (status : Status) → InWork status → Announcing status → ⊥
-no_store Down w x = w
-no_store Idle w x = w
-no_store N2 w x = w
-no_store N3 w x = w
-no_store (Busy stage seen read_at tried_at answer) w x = x
-
-open_any : (status : Status) (opened : Opened) (k : ℕ) → opened ≡ Open k → WorkOpen status opened
-open_any Down opened k e = tt
-open_any Idle opened k e = tt
-open_any N2 opened k e = tt
-open_any N3 opened k e = tt
-open_any (Busy stage seen read_at tried_at answer) opened k e = (k, e)
 
 -- at first every process, there or not, has a fresh record (R86)
 pub fresh_at : (P p : ℕ) → get_or (replicate P fresh) p fresh ≡ fresh
@@ -204,46 +176,5 @@ pub closed_open : {A : Type 0} {k : ℕ} → Closed ≡ Open k → A
 closed_open e = absurd (let z : ◌≡◌ {A = ℕ} 0 1 = cc in omega arith)
 
 module _ (rows : List Row) where
-  sane_turned : (p : ℕ) (r next : Process) → Sane rows p r → Turned rows p r next → Sane rows p next
-  sane_turned p r next h still = h
-  sane_turned p r next h (first_store l) = record { in_file = h.in_file; works = tt; left = λ _. l }
-  sane_turned p r next h (second_store e) = record { in_file = h.in_file; works = tt; left = λ _. h.left (subst Announcing (sym e) tt) }
-  sane_turned p r next h (third_store e) = record {
-    in_file = λ j x. (let l : r.begun < count rows p = h.left (subst Announcing (sym e) tt) in let same : first rows p + r.begun ≡ j = cc in let f = last_fits rows p in omega arith);
-    works = (first rows p + r.begun, refl);
-    left = λ x. absurd x;
-  }
-  sane_turned p r next h (works k q (on e b n)) = record { in_file = λ j x. h.in_file j (sym e ∙ x); works = open_any next.status next.opened k (e ∙ q); left = λ x. absurd (no_store next.status n x) }
-  sane_turned p r next h (works k q (ends e i b)) = record {
-    in_file = λ j x. closed_open (sym e ∙ x);
-    works = subst (λ st. WorkOpen st next.opened) (sym i) tt;
-    left = λ x. absurd (subst Announcing i x);
-  }
-
-  sane_waked : (p : ℕ) (r : Process) (status : Status) → Sane rows p r → Sane rows p (waked r status)
-  sane_waked p r Down h = record { in_file = h.in_file; works = go r.opened refl; left = λ x. absurd (quiet r.opened x) }
-    where
-      go : (o : Opened) → r.opened ≡ o → WorkOpen (woken_up o) r.opened
-      go Closed q = tt
-      go (Open k) q = (k, q)
-
-      quiet : (o : Opened) → Announcing (woken_up o) → ⊥
-      quiet Closed x = x
-      quiet (Open k) x = x
-  sane_waked p r Idle h = h
-  sane_waked p r N2 h = h
-  sane_waked p r N3 h = h
-  sane_waked p r (Busy stage seen read_at tried_at answer) h = h
-
   pub sane_idle : (q : ℕ) → Sane rows q fresh
   sane_idle q = record { in_file = λ k e. closed_open e; works = tt; left = λ x. absurd x }
-
-  -- no index is out of range (R256): whatever the bytes, if it is so before them, an open row is a row of the file, in the midst of work a row is
-  -- open, and a row that is announced is there
-  pub sane_after : (t : ℕ) (bytes : List ℕ) (s : State) → ((q : ℕ) → Sane rows q (proc_at q s)) → (q : ℕ) → Sane rows q (proc_at q (after rows t bytes s))
-  sane_after = each_after rows (Sane rows) sane_turned (λ p r h. record { in_file = h.in_file; works = tt; left = λ x. absurd x }) (λ p r h. sane_waked p r r.status h)
-
-  -- and so after every schedule from the start
-  pub sane : (P : ℕ) (words bytes : List ℕ) (q : ℕ) → Sane rows q (proc_at q (after rows 0 bytes (begin P words)))
-  unfolding begin proc_at
-  sane P words bytes q = sane_after 0 bytes (begin P words) (λ q. rw (fresh_at P q) (sane_idle q)) q
