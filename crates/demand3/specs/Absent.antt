@@ -20,7 +20,8 @@ use Rattle.word.specs.Word.{bit}
 use Rattle.rows.specs.Buffers.{infront}
 use Rattle.run.specs.declared.Outcome.TheVariants as outcome
 use Rattle.run.specs.Run.{end_of, room_of, EndsAs, Ends}
-use Rattle.machine.specs.Absent.{Fitting, turned_by, told_swaps, absent_kept, log_tells_bit, unlogged_kept}
+use Rattle.machine.specs.Absent.{Fitting, turned_by, told_swaps}
+use Rattle.machine.proofs.Absent.{absent_kept, log_tells_bit, unlogged_kept}
 use Rattle.demand3.specs.Plans.{good_at}
 use Rattle.demand3.specs.Demand.{words_stay}
 use Rattle.demand3.specs.File.{Bytes, plan}

@@ -18,7 +18,8 @@ use Rattle.machine.specs.declared.Status.{Status}
 use Rattle.machine.specs.declared.Status.TheVariants.{Down, Idle, N2, N3, Busy}
 use Rattle.machine.specs.Records.{waked}
 use Rattle.machine.specs.Machine.{State, proc_at, step, after, after_in, begin}
-use Rattle.machine.specs.Laws.{Turned, still, first_store, second_store, third_store, works, on, ends, each_after, fresh_at}
+use Rattle.machine.specs.Laws.{Turned, still, first_store, second_store, third_store, works, on, ends, fresh_at}
+use Rattle.machine.proofs.Laws.{each_after}
 use Rattle.demand3.specs.Statement.{counts, owner_of}
 use Rattle.demand3.specs.Plans.{Plan, Covered, covered}
 

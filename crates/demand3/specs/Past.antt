@@ -14,7 +14,8 @@ use Rattle.machine.specs.declared.Status.{Status}
 use Rattle.machine.specs.declared.Status.TheVariants.{Down, Idle, N2, N3, Busy}
 use Rattle.machine.specs.Records.{waked}
 use Rattle.machine.specs.Machine.{State, Effect, quiet, swaps, logs, replies, log_after, proc_at, step, after, after_in}
-use Rattle.machine.specs.Laws.{Turned, still, first_store, second_store, third_store, works, on, ends, closed_open, each_after}
+use Rattle.machine.specs.Laws.{Turned, still, first_store, second_store, third_store, works, on, ends, closed_open}
+use Rattle.machine.proofs.Laws.{each_after}
 use Rattle.replay.specs.Logs.{Sorted, put}
 use Rattle.replay.specs.Replay.{Good}
 use Rattle.demand3.specs.Statement.{of}

@@ -41,7 +41,8 @@ use Rattle.machine.specs.Stages.{stage_number, stage_at, stage_of, numbered}
 use Rattle.machine.specs.Records.{fresh, nobody, with_status, with_kept, with_checkpoint, with_stored, closed, started, crashed, down_to, woken_up, waked, row_open, WorkOpen}
 use Rattle.machine.specs.Steps.{entry, after_read, kept_by, swap_says, lost_by, tried_in, storing, storing_in, recovered, same_bit, decide, decide_in, step_turn, step_turn_in, working}
 use Rattle.machine.specs.Machine.{State, Effect, quiet, swaps, logs, replies, process_of, effect_of, turn, turn_in, words_after, log_after, answers_after, apply, applied, proc_at, act, act_in, step, step_in, after, after_in}
-use Rattle.machine.specs.Laws.{after_snoc, get_or_either, Sane, sane_idle, sane_after}
+use Rattle.machine.specs.Laws.{after_snoc, get_or_either, Sane, sane_idle}
+use Rattle.machine.proofs.Laws.{sane_after}
 use Rattle.machine.specs.Promises.{entered, Enters, reply_at}
 use Rattle.engine.specs.Part.{Holds, state_lent, Left}
 

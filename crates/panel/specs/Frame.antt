@@ -26,7 +26,8 @@ use Rattle.machine.specs.Laws.{get_or_either}
 use Rattle.machine.specs.Machine.{State, effect_of, words_after, turn, turn_in, apply, applied, proc_at, act, act_in, step, step_in}
 use Rattle.machine.specs.Steps.{step_turn}
 use Rattle.machine.specs.OneByte as one
-use Rattle.machine.specs.Awake.{awake-down, awake-byte, Strikes}
+use Rattle.machine.specs.Awake.{awake-down, Strikes}
+use Rattle.machine.proofs.Awake.{awake-byte}
 use Rattle.run.specs.Run.{room_of}
 use Rattle.panel.specs.declared.Stroke.{Stroke}
 use Rattle.panel.specs.declared.Table.{Table}

@@ -29,7 +29,7 @@ use Rattle.machine.specs.Laws.{after_next, get_or_either}
 use Rattle.machine.specs.Machine.{State, proc_at, step, after, after_in, begin}
 use Rattle.run.specs.declared.Outcome.{Outcome as RunOutcome}
 use Rattle.run.specs.declared.Outcome.TheVariants.{Ran}
-use Rattle.machine.specs.Awake.{awake_up}
+use Rattle.machine.proofs.Awake.{awake_up}
 use Rattle.run.specs.Run.{end_of, room_of, EndsAs, Ends}
 use Rattle.run.specs.Struck.{state_at, named_there}
 use Rattle.panel.specs.declared.Stroke.{Stroke}

@@ -17,7 +17,8 @@ use Rattle.machine.specs.declared.Maybe.TheVariants.{None}
 use Rattle.machine.specs.Records.{with_stored, row_open, WorkOpen}
 use Rattle.machine.specs.Steps.{step_turn, step_turn_in}
 use Rattle.machine.specs.Machine.{State, quiet, effect_of, log_after, apply, applied, turn, turn_in, proc_at, act, act_in, step, step_in, after_in, begin}
-use Rattle.machine.specs.Laws.{Sane, fresh_at, closed_open, sane_idle, sane_after}
+use Rattle.machine.specs.Laws.{Sane, fresh_at, closed_open, sane_idle}
+use Rattle.machine.proofs.Laws.{sane_after}
 use Rattle.replay.specs.Lists.{All, all_put}
 use Rattle.replay.specs.Logs.{Sorted}
 use Rattle.demand3.specs.Invariant.{IsOpen, Inv}

@@ -22,7 +22,8 @@ use Rattle.word.specs.Word.{width, value_in, flips_in}
 use Rattle.word.specs.Widths.{rewidened}
 use Rattle.machine.specs.KindLaws.{NoAdvance, no_advance}
 use Rattle.machine.specs.Machine.{State, after, after_in, begin}
-use Rattle.machine.specs.Widths.{PrintsAlike, Agreeing, agreeing, alike}
+use Rattle.machine.specs.Widths.{PrintsAlike, Agreeing, agreeing}
+use Rattle.machine.proofs.Widths.{alike}
 use Rattle.run.specs.Run.{end_of}
 
 -- how many bits of a word of version 1 are its value

@@ -11,7 +11,8 @@ use Rattle.runfile.specs.Table.{byte_of}
 use Rattle.runfile.specs.Lawful.{LawfulByte, of_one, of_all_lem, Lawful}
 use Rattle.machine.specs.Machine.{State, proc_at}
 use Rattle.machine.specs.Limits.{ran}
-use Rattle.machine.specs.Awake.{Strikes, strikes, struck}
+use Rattle.machine.specs.Awake.{Strikes, struck}
+use Rattle.machine.proofs.Awake.{strikes}
 
 -- the state after the first i bytes of the file's schedule
 abbrev pub state_at : Header → List ℕ → ℕ → State
