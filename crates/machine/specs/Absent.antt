@@ -1,7 +1,7 @@
 -- The flip bits over a whole schedule, whatever its bytes are: bit q of a word is turned as often as process q changes the word, which is as often as
--- the log tells of a successful swap of q on it, and by nothing else. So the bits of processes that the file does not have stay as they are (R17), and the bit of a process that has
--- changed a word by no byte, or of whose swaps on it the log does not tell, is as it was at the start. Shown from what one byte may write: nothing,
--- or a swap by the process that it names, which has a row open.
+-- the log tells of a successful swap of q on it, and by nothing else. So the bits of processes that the file does not have stay as they are (R17), and the
+-- bit of a process that has changed a word by no byte, or of whose swaps on it the log does not tell, is as it was at the start. Here are the words of it,
+-- and what one byte may write: nothing, or a swap by the process that it names, which has a row open. It is proved in proofs/Absent.antt.
 use Prim.Native.Nat.{ℕ, zero, suc, ◌^◌, ◌<◌}
 use Rattle.std.specs.Prelude.{◌≡◌, Bool, not, ◌&&◌, get_or, set}
 use Rattle.std.proofs.Math.Bool.{true, false, cond}

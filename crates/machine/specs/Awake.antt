@@ -1,6 +1,6 @@
 -- Who is up by the bytes alone (R75) is who is awake in the machine: after any bytes from the start, a process of the file is awake exactly if it is up by
--- the bytes. By what one byte makes of a record: a step leaves a process that is down as it is, and one that is awake awake; a crash and a crash of
--- all bring it down, and a wake leaves it awake. So a crash of one that is up and a wake of one that is down change its record.
+-- the bytes (`awake_up`, in proofs/Awake.antt). Here is what it is to be awake, and what a crash of one that is up and a wake of one that is down make of
+-- its record: another.
 use Rattle.std.specs.Prelude.{ℕ, ◌≡◌, true, false, ◌↔◌, ◌⊎◌}
 use Rattle.std.proofs.Math.Path.{refl, ap}
 use Rattle.std.proofs.Common.{sym, ◌∙◌, true≢false, inl, inr}

@@ -1,6 +1,7 @@
 -- Recovery goes by the own bit. What V1, V2 and V3 decide depends on nothing but the stored answer, the checkpoint, the kept bit and the own flip
--- bit of the word: not on the row, nor on the word's value, nor on the other bits, nor on when the step is made. And what V4 stores depends on nothing
--- but the row's kind and, of an advance, the kept value: not on the word, which others may have changed since.
+-- bit of the word: not on the row, nor on the word's value, nor on the other bits, nor on when the step is made (for two words: `by_own_bit`, in
+-- proofs/Choices.antt). And what V4 stores depends on nothing but the row's kind and, of an advance, the kept value: not on the word, which others may
+-- have changed since.
 use Rattle.std.specs.Prelude.{ℕ, ◌≡◌, Bool, cond}
 use Rattle.std.proofs.Math.Path.{refl, ap}
 use Rattle.std.proofs.Common.{◌∙◌}

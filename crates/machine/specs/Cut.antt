@@ -1,6 +1,6 @@
--- The announcement that is cut off is made again, and for the same row (R105). Whatever the bytes are, a process that has no row open has none until it
--- has begun one more, and the byte at which it has opens the row that follows those that it had begun. So the row that opens after a cut is the
--- row whose announcement was cut. Shown by cases of what one byte may make of a record.
+-- What it is that an announcement that is cut off is made again, and for the same row (R105): `Again`. Whatever the bytes are, a process that has no row
+-- open has none until it has begun one more, and the byte at which it has opens the row that follows those that it had begun. So the row that opens
+-- after a cut is the row whose announcement was cut. That is proved in proofs/Cut.antt (`announced_again`), by the cases that stand here.
 use Prim.Native.Nat.{ℕ, suc, ◌+◌}
 use Rattle.std.specs.Prelude.{◌≡◌, Bool, false, eqb}
 use mathlib.Core.List.{List, [], ◌∷◌, ◌++◌}

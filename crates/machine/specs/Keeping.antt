@@ -1,7 +1,7 @@
 -- What A2 keeps, and what changes it (R84, R112). What process p keeps after a byte is what it kept before, unless the byte is a step of p at A2; that
 -- step keeps the bit and, of an advance, the value that A1 read, both in its one byte (`kept_byte`). So whatever the bytes are, crashes and wakes and the
--- steps of others among them, the kept value stays until p makes A2 of an advance, and the kept bit until p makes any A2. Shown by cases of what one
--- byte may make of a record.
+-- steps of others among them, the kept value stays until p makes A2 of an advance, and the kept bit until p makes any A2 (`value_stays`, `kept_stays`). The
+-- three are proved in proofs/Keeping.antt.
 use Rattle.std.specs.Prelude.{ℕ, suc, ◌≡◌, Bool, not, ◌&&◌, eqb, replicate}
 use Rattle.std.proofs.Math.Path.{refl}
 use Rattle.std.proofs.Math.Bool.{true, false, cond}

@@ -1,5 +1,5 @@
--- The fold over a schedule, taken apart; what goes on to hold of a process record whatever the bytes are; and that an open row is a row of
--- the file.
+-- The fold over a schedule, taken apart; what a step may make of a process record, and what goes on to hold of it after a byte; and what it is that an
+-- open row is a row of the file (`Sane`). proofs/Laws.antt has the same over a schedule (`each_after`), and that every record is sane (`sane`).
 use Rattle.std.specs.Prelude.{ℕ, zero, suc, ◌+◌, ◌≤◌, ◌<◌, ◌≡◌, Bool, cond, ◌⊎◌, eqb, set, take, replicate}
 use Rattle.std.proofs.Math.Path.{refl, sym, subst}
 use Rattle.std.proofs.Common.{◌∙◌, ap, inl, inr, add-zero, zero-add, suc-add, add-suc, arith, take-suc, length-take-le, get_or-set_same, get_or-set_other}

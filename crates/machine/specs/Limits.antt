@@ -1,7 +1,7 @@
--- Left alone by crashes, a process ends a read or a compare within 9 own steps from the start (R150), and every operation within 5 after a wake (R151):
--- for any rows, any start words and any schedule, whatever the others do in between (R152). Each own step leads to a stage with fewer steps to go, or
--- closes the row; no other byte touches the record of a process that is awake, unless it crashes it. For an advance no limit from the start is claimed,
--- since its A4 may lead back to A1 (R118); `more_than_9` has one that needs more.
+-- What it is to end an operation within so many own steps (`EndsWithin`). Left alone by crashes, a process ends a read or a compare within 9 from the start
+-- (R150), and every operation within 5 after a wake (R151): for any rows, any start words and any schedule, whatever the others do in between (R152).
+-- That is proved in proofs/Limits.antt (`from_start`, `from_wake`). For an advance no limit from the start is claimed, since its A4 may lead back to A1
+-- (R118); `more_than_9`, there, has one that needs more.
 use Prim.Native.Nat.{ℕ, suc, ◌+◌, ◌≤◌, ◌<◌}
 use Rattle.std.specs.Prelude.{◌≡◌, Bool, eqb}
 use Rattle.std.proofs.Math.Path.{refl}

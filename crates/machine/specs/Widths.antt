@@ -1,7 +1,7 @@
--- Two machines of different widths run alike: one whose words have values of a bits, and one whose words have values of b, no fewer, when
+-- What it is that two machines of different widths run alike: one whose words have values of a bits, and one whose words have values of b, no fewer, when
 -- every word of the second is the first's word rewidened. So a file of version 1 that is widened as it is read prints what it printed.
 -- Asked of the rows is that a swap puts in the same at both widths: no advance does, whose sum goes round at another value, and every other row does.
--- One relation between the two states is kept by every byte: a step comes to the same turn at both widths, and each turn keeps it.
+-- One relation between the two states, `Alike`, is kept by every byte (`alike`, in proofs/Widths.antt).
 use Prim.Native.Nat.{ℕ, ◌^◌, ◌<◌}
 use Rattle.std.specs.Prelude.{◌≡◌}
 use Rattle.std.proofs.Math.Path.{subst}
