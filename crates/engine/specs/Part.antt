@@ -1,19 +1,15 @@
 -- A part of a schedule run over lent buffers: the state that is lent, what is asked of it, and what is left.
-use Rattle.std.specs.Prelude.{ℕ, ◌+◌, ◌*◌, ◌≤◌, ◌<◌, ◌≡◌, cond, List, ◌++◌, eqb, length, get_or, take, drop}
+use Rattle.std.specs.Prelude.{ℕ, ◌+◌, ◌*◌, ◌≤◌, ◌<◌, ◌≡◌, List, ◌++◌, length, get_or, take, drop}
 use Rattle.runfile.specs.declared.Row.{Row}
 use Rattle.runfile.specs.Layout.{row_of_table}
 use Rattle.runfile.specs.Shares.{Lined}
 use Rattle.runfile.specs.Lawful.{LawfulByte}
 use Rattle.runfile.specs.Operations.{rows_from}
-use Rattle.word.specs.Word.{value}
-use Rattle.rows.specs.declared.Entry.{Entry}
-use Rattle.rows.specs.Log.{first_swap}
 use Rattle.rows.specs.Buffers.{rows_of, flat, infront}
 use Rattle.engine.specs.declared.Standing.{Standing}
 use Rattle.engine.specs.declared.Part.{Part}
 use Rattle.machine.specs.Records.{nobody}
-use Rattle.machine.specs.Steps.{storing}
-use Rattle.machine.specs.Machine.{State, effect_of, log_after, after}
+use Rattle.machine.specs.Machine.{State, after}
 use Rattle.machine.specs.Laws.{Sane}
 
 -- the words are the state's; log and answers hold its m and k rows in front (R183), and behind them what stood there (R184)
