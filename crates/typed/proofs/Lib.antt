@@ -2,3 +2,4 @@ pub mod Scanning
 pub mod Counting
 pub mod Putting
 pub mod Answers
+pub mod Says

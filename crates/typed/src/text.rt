@@ -140,7 +140,7 @@ fn last_of(m: usize) -> u8
 
 // Puts bytes and a comment behind them into `out`, from index `at` on, in whole lines. An empty comment is none. Where
 // there is no room `out` is left as it was. Texts that are put one behind the other are read as the bytes one behind
-// the other, whatever the comments say (`puts_says`, specs/Says).
+// the other, whatever the comments say (`puts_says`, proofs/Says).
 pub fn put_bytes(out: &mut [u8], at: usize, bytes: &[u8], comment: &[u8]) -> Written
     ensures { Puts out.old at bytes.now comment.now result out.new }
 {
