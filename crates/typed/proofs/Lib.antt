@@ -3,3 +3,7 @@ pub mod Counting
 pub mod Putting
 pub mod Answers
 pub mod Says
+pub mod Spots
+pub mod Exactly
+pub mod Editor
+pub mod Told

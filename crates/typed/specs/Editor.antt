@@ -1,6 +1,6 @@
 -- Columns as an editor counts them, in characters of UTF-8: a byte from 128 to 191 goes on with the character that began before it. Wherever a place is
 -- told, that is the column which counting bytes gives: such bytes stand in comments only, or are themselves the slip, and behind a `#` nothing of its
--- line is told. By induction on the index.
+-- line is told. By induction on the index; here for the bytes of a text, in proofs/Editor.antt for its slip.
 use Prim.Native.Nat.{ℕ, zero, suc, ◌+◌, ◌≤◌, ◌<◌}
 use Rattle.std.specs.Prelude.{◌≡◌, Bool, true, false, cond, List, eqb, length, get_or, take}
 use Rattle.std.proofs.Math.Path.{refl}
@@ -12,9 +12,8 @@ use Rattle.typed.specs.declared.chars.Class.{Class}
 use Rattle.typed.specs.declared.chars.Class.TheVariants.{Digit, Blank, NewLine, Hash, Other}
 use Rattle.typed.specs.Chars.{within, within_parts, class_of, newline_class, wide_class}
 use Rattle.typed.specs.Places.{next_place, behind, behind_next, front, place_at, place_next}
-use Rattle.typed.specs.Offences.{class_at, comment_after, in_comment, begins, Offends, stray, alone, too_many, First}
-use Rattle.typed.specs.Spots.{slip_inside}
-use Rattle.typed.specs.Exactly.{true_false, begins_outside, slips_exactly}
+use Rattle.typed.specs.Offences.{class_at, comment_after, in_comment, begins, Offends, stray}
+use Rattle.typed.specs.Exactly.{true_false, begins_outside}
 
 unfoldable pub is_continuation : ℕ → Bool
 is_continuation c = within 128 191 c
@@ -70,22 +69,11 @@ module _ (text : List ℕ) where
       rw (shown_next text i (omega arith), place_next text i (omega arith))
       (same_next (get_or text i 0) (shown_at text i) (place_at text i) (in_comment text i) (same_at i (omega arith) (λ j l. n j (omega arith))) (n i (omega arith)))
 
-  shown_is : (i : ℕ) → i ≤ length text → in_comment text i ≡ false → Unstrayed i → shown_at text i ≡ place_at text i
+  pub shown_is : (i : ℕ) → i ≤ length text → in_comment text i ≡ false → Unstrayed i → shown_at text i ≡ place_at text i
   shown_is i h c n = let s = same_at i h n in both (shown_at text i) (place_at text i).line (place_at text i).column s.line (s.column c)
     where
       both : (p : Place) (l k : ℕ) → p.line ≡ l → p.column ≡ k → p ≡ record { line = l; column = k }
       both p l k a b = rw (← a, ← b)
-
-  -- where a slip is told
-  pub slip_shown : (room : ℕ) (slip : Slip) (i : ℕ) → First text room slip i → shown_at text i ≡ place_at text i
-  slip_shown room slip i f =
-      let inside = slip_inside text room slip i ((slips_exactly text room slip i).1 f) in
-      shown_is i (omega arith) (outside slip i f.offends) (λ j h c o. f.none_before Stray j h (stray (omega arith) c o))
-    where
-      outside : (k : Slip) (j : ℕ) → Offends text room k j → in_comment text j ≡ false
-      outside k j (stray l c o) = c
-      outside k j (alone b e) = begins_outside text j b
-      outside k j (too_many b d r) = begins_outside text j b
 
   -- where a byte of an accepted text stands
   pub byte_shown : (room i : ℕ) → i < length text → ((k : Slip) (j : ℕ) → Offends text room k j → ⊥) → begins text i ≡ true → shown_at text i ≡ place_at text i

@@ -1,5 +1,5 @@
 -- The slips in propositions, index by index, with no machine: which characters stand in a comment, which digits begin a byte, and
--- what offends where. Exactly.antt proves that the first offence is what is told.
+-- what offends where. proofs/Exactly.antt proves that the first offence is what is told.
 use Rattle.std.specs.Prelude.{ℕ, zero, suc, ◌≤◌, ◌<◌, ◌≡◌, Bool, true, false, cond, not, ◌&&◌, List, length, get_or}
 use Rattle.typed.specs.declared.Slip.{Slip}
 use Rattle.typed.specs.declared.Slip.TheVariants.{Stray, Alone, TooMany}

@@ -13,7 +13,7 @@
 // The first in the text is told. A letter O that is typed for a zero is slip 1 at the O, wherever it stands in its byte.
 //
 // Nothing is asked of any caller. What each function answers and leaves stands in specs/Promises, and what that says of
-// a text in specs/Told and specs/Says.
+// a text in Told and Says, of specs/ and of proofs/.
 #![tactic(auto)]
 
 mod chars;

@@ -1,6 +1,6 @@
 -- `read` meets its contract: checked, and then filled where nothing slips, so that the buffer stays where something does.
 use mathlib.Core.Path.{sym, ◌∙◌}
-use Rattle.typed.specs.Spots.{slip_inside}
+use Rattle.typed.proofs.Spots.{slip_inside}
 use Rattle.typed.proofs.Answers.{accepted}
 use Rattle.typed.proofs.read.Goals as goal
 
