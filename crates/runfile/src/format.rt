@@ -30,6 +30,7 @@ pub fn row_size(version: u16) -> usize
 }
 
 // Where new stands in a row of this size, behind old.
+#[tactic(auto, unfolding(crate::specs::Format::new_place))]
 pub fn new_place(stride: usize) -> usize
     ensures { (result ≡ new_place stride) × (result ≤ 8) }
 {

@@ -220,6 +220,7 @@ fn check_body(file: &[u8], header: Header) -> Checked
 }
 
 // Refusals 1 to 12, for any bytes (R41 to R52): on the panel, 16 is not asked of the file's own schedule (R221).
+#[tactic(auto, unfolding(crate::specs::Refusals::file_refusal))]
 pub fn check_file(file: &[u8]) -> Checked
     ensures { DecidesFile file.now result }
 {

@@ -1,26 +1,26 @@
 -- `check_file` meets its contract: a file that is long enough is refused by its head, or its head is lawful and the body decides.
 use mathlib.Core.Path.{sym, ◌∙◌}
-use borrow.Author.Tests.{lt-ltb, le-ltb}
+use borrow.Author.Tests.{le-ltb}
+use lib.ListN.{length}
+use mathlib.Core.List.{List}
+use native.Mathlib.Omega.{arith}
+use Prim.Native.Nat.{ℕ}
 use Rattle.runfile.specs.Layout.{header_in}
 use Rattle.runfile.specs.Lawful.{lawful_head, longest_any}
 use Rattle.runfile.specs.Order.{passes, stops, accepts}
 use Rattle.runfile.specs.Refusals.{found, no_room, head_checks, body_checks, file_refusal}
 use Rattle.runfile.proofs.check_file.Goals as goal
 
-pub returns-then-file-lt11 : goal.returns-then-file-lt11
-unfolding file_refusal
-returns-then-file-lt11 c = rw (lt-ltb _ _ c.if-file-lt11.true)
-
 pub returns-in_default : goal.returns-in_default
 unfolding file_refusal
 returns-in_default c =
-    let f = c.args.file.now in
+    let f : List ℕ = c.args.file.now in
     let checked = sym (rw c.header_of-header.ensures at c.check_head-head.ensures) in
-    c.in_default.is ∙ sym (rw (le-ltb _ _ c.if-file-lt11.false) (stops (found (header_in f) f no_room) _ head_checks body_checks _ _ (checked ∙ c.in_default.is)))
+    c.in_default.is ∙ sym (rw (le-ltb (length f) 11 (omega arith)) (stops (found (header_in f) f no_room) _ head_checks body_checks _ _ (checked ∙ c.in_default.is)))
 
 pub check_body-requires : goal.check_body-requires
 check_body-requires c =
-    let f = c.args.file.now in
+    let f : List ℕ = c.args.file.now in
     let checked = sym (rw c.header_of-header.ensures at c.check_head-head.ensures) in
     let h = accepts (found (header_in f) f no_room) (header_in f) head_checks _ (checked ∙ c.in-Accepted.is) in
     let l = lawful_head (header_in f) f no_room h.1 in
@@ -29,6 +29,6 @@ check_body-requires c =
 pub returns : goal.returns
 unfolding file_refusal
 returns c =
-    let f = c.args.file.now in
+    let f : List ℕ = c.args.file.now in
     let checked = sym (rw c.header_of-header.ensures at c.check_head-head.ensures) in
-    sym (rw (le-ltb _ _ c.if-file-lt11.false, passes (found (header_in f) f no_room) _ head_checks body_checks _ (checked ∙ c.in-Accepted.is)) (sym (rw c.header_of-header.ensures at c.check_body.ensures)))
+    sym (rw (le-ltb (length f) 11 (omega arith), passes (found (header_in f) f no_room) _ head_checks body_checks _ (checked ∙ c.in-Accepted.is)) (sym (rw c.header_of-header.ensures at c.check_body.ensures)))
