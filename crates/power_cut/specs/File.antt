@@ -1,5 +1,4 @@
--- What a power cut leaves of every run file that is not refused, cut after any of its schedule bytes: the refusals give what the theorem asks of the rows
--- (R49 to R51), and that a byte can name every process (R44). The positions of the added bytes are under no limit.
+-- The claim of a power cut, of every run file that is not refused, cut after any of its schedule bytes; `proofs/File.antt` proves it.
 -- Assumes of the file that its numbers are bytes, which is what `run` is lent (`&[u8]`).
 use Rattle.std.specs.Prelude.{ℕ, ◌≡◌, List, take}
 use Rattle.runfile.specs.declared.Header.{Header}
@@ -8,25 +7,16 @@ use Rattle.runfile.specs.declared.Checked.TheVariants.{Accepted}
 use Rattle.runfile.specs.Layout.{schedule_in}
 use Rattle.runfile.specs.Operations.{words_of, table_of}
 use Rattle.runfile.specs.Refusals.{refusal_of}
-use Rattle.runfile.specs.Lawful.{Lawful}
-use Rattle.runfile.proofs.Lawful.{lawful}
 use Rattle.machine.specs.Machine.{State, step}
-use Rattle.demand3.specs.File.{Bytes, plan}
+use Rattle.demand3.specs.File.{Bytes}
 use Rattle.power_cut.specs.Statement as statement
 use Rattle.power_cut.specs.Statement.{needed, in_turn, Safe, Leaves}
-use Rattle.power_cut.specs.PowerCut.{leaves}
 
 -- the claim for the rows, the start words and the first n schedule bytes of a file with this header
 abbrev pub OfFile : Header → List ℕ → ℕ → Type 0
 OfFile h f n = Leaves (step (table_of h f)) h.processes (table_of h f) (words_of h f) (take n (schedule_in h f))
 
 module _ (f : List ℕ) (bytes : Bytes f) (room : Room) (h : Header) (accepted : refusal_of f room ≡ Accepted h) where
-  sound : Lawful h f room
-  sound = lawful f room h accepted
-
-  pub leaves-file : (n : ℕ) → OfFile h f n
-  leaves-file n = leaves (table_of h f) (words_of h f) h.processes (plan f bytes h room sound) (take n (schedule_in h f))
-
   module _ (n : ℕ) where
     abbrev does : (t byte : ℕ) → State → State
     does = step (table_of h f)
@@ -37,7 +27,3 @@ module _ (f : List ℕ) (bytes : Bytes f) (room : Room) (h : Header) (accepted :
 
     abbrev pub end_in_turn : State
     end_in_turn = statement.end_of does h.processes (table_of h f) (words_of h f) (take n (schedule_in h f)) (in_turn h.processes (needed (table_of h f) cut_at))
-
-    -- so there is a recovery, whatever the file and the cut
-    pub safe_in_turn : Safe does h.processes (table_of h f) (words_of h f) cut_at end_in_turn
-    safe_in_turn = (leaves-file n).safe (in_turn h.processes (needed (table_of h f) cut_at)) ((leaves-file n).in_turn_lem sound.file.head.processes)

@@ -1,6 +1,6 @@
--- The claim at two cuts of bench case f, which `docs/POWER-CUT.md` works out, and at two advances: what is told, in whichever order the bytes come, by
--- computation. The premises can be met, so the claim holds of these cuts.
-use Rattle.std.specs.Prelude.{ℕ, ◌≡◌, refl, true, List, [], ◌∷◌, ◌++◌, replicate}
+-- Two cuts of bench case f, which `docs/POWER-CUT.md` works out, and two advances: what is told, in whichever order the bytes come, by computation. The
+-- premises of the claim can be met.
+use Rattle.std.specs.Prelude.{ℕ, ◌≡◌, refl, List, [], ◌∷◌, ◌++◌, replicate}
 use Rattle.std.proofs.Common.{arith}
 use Rattle.runfile.specs.declared.Row.{Row}
 use Rattle.runfile.specs.Operations.{row_numbered, first, count, names}
@@ -16,9 +16,7 @@ use Rattle.machine.specs.Machine.{turn_in, apply, applied, proc_at, act_in, step
 use Rattle.demand3.specs.Statement.{through}
 use Rattle.demand3.specs.Plans.{Plan}
 use Rattle.demand3.specs.Planned.{passes, all_pass, planned}
-use Rattle.power_cut.specs.Statement.{power_cut, steps_by, needed, cut, dark, end_of, Safe, Leaves}
-use Rattle.power_cut.specs.Computed.{all_idle, recovers, is_recovery, recovers_with_cuts, is_recovery_with_cuts}
-use Rattle.power_cut.specs.PowerCut.{leaves}
+use Rattle.power_cut.specs.Statement.{power_cut, needed, cut, end_of}
 
 -- what is told, and the log, at the end
 pub record End : Type 0 where
@@ -27,14 +25,14 @@ pub record End : Type 0 where
   pub answers : List Entry
 
 module _ (rows : List Row) (before : List ℕ) where
-  abbrev steps_of : ℕ → ℕ
+  abbrev pub steps_of : ℕ → ℕ
   steps_of p = needed rows (cut (step rows) 2 rows (7 ∷ []) before) p
 
   abbrev ends : List ℕ → End
   ends more = let s = end_of (step rows) 2 rows (7 ∷ []) before more in record { words = s.words; log = s.log; answers = s.answers }
 
 -- Case f (R266): worker 0 moves 7 to 8, worker 1 moves 7 to 9
-pub rows : List Row
+unfoldable pub rows : List Row
 rows = record { process = 0; kind = 1; word = 0; old = 7; new = 8 } ∷ record { process = 1; kind = 1; word = 0; old = 7; new = 9 } ∷ []
 
 pub plan : Plan 2 1 rows
@@ -42,13 +40,8 @@ unfolding rows passes all_pass same_fields
 plan = planned 2 1 rows (omega arith) refl
 
 -- cut after 14 bytes: worker 1 has swapped, worker 0 has lost, and neither has stored its answer
-pub lost : List ℕ
+unfoldable pub lost : List ℕ
 lost = replicate 4 0x00 ++ (replicate 7 0x01 ++ replicate 3 0x00)
-
--- worker 0 needs V1 V2 V3 V6, worker 1 V1 V2 V3 V4 V5
-pub four_and_five : (steps_of rows lost 0 ≡ 4) × (steps_of rows lost 1 ≡ 5)
-unfolding rows lost through steps_by row_numbered first count value_in bit_in swapped_in bit_of turn_of flips_in tried_in storing_in decide_in step_turn_in applied apply proc_at turn_in act_in step_in begin
-four_and_five = (refl, refl)
 
 -- in turn, worker 0 first: it is told fail and worker 1 true; the log has worker 1's swap alone, and the word is as it was
 pub in_turn_lem : ends rows lost (0x20 ∷ replicate 4 0x00 ++ 0x21 ∷ replicate 5 0x01) ≡ record {
@@ -60,7 +53,7 @@ unfolding rows lost through row_numbered first count value_in bit_in swapped_in 
 in_turn_lem = refl
 
 -- by turns, worker 1 first
-pub by_turns : List ℕ
+unfoldable pub by_turns : List ℕ
 by_turns = 0x21 ∷ 0x20 ∷ 0x01 ∷ 0x00 ∷ 0x01 ∷ 0x00 ∷ 0x01 ∷ 0x00 ∷ 0x01 ∷ 0x00 ∷ 0x01 ∷ []
 
 pub by_turns_lem : ends rows lost by_turns ≡ record {
@@ -71,16 +64,8 @@ pub by_turns_lem : ends rows lost by_turns ≡ record {
 unfolding rows lost by_turns through row_numbered first count value_in bit_in swapped_in bit_of turn_of flips_in is_swapped one_past place insert spoken tried_in storing_in decide_in step_turn_in applied apply proc_at turn_in act_in step_in begin
 by_turns_lem = refl
 
-by_turns_recovers : recovers (step rows) 2 15 by_turns (dark (step rows) 2 rows (7 ∷ []) lost) ≡ true
-unfolding rows lost by_turns all_idle recovers through row_numbered first count value_in bit_in swapped_in bit_of turn_of flips_in tried_in storing_in decide_in step_turn_in applied apply proc_at turn_in act_in step_in begin
-by_turns_recovers = refl
-
-pub safe_by_turns : Safe (step rows) 2 rows (7 ∷ []) (cut (step rows) 2 rows (7 ∷ []) lost) (end_of (step rows) 2 rows (7 ∷ []) lost by_turns)
-unfolding lost
-safe_by_turns = (leaves rows (7 ∷ []) 2 plan lost).safe by_turns (is_recovery (step rows) 2 15 by_turns (dark (step rows) 2 rows (7 ∷ []) lost) by_turns_recovers)
-
 -- the power is cut again when worker 1 has been told and worker 0 is in the midst of recovery: worker 0 recovers from V1 on, and worker 1 wakes idle
-pub bytes_cut_again : List ℕ
+unfoldable pub bytes_cut_again : List ℕ
 bytes_cut_again = 0x21 ∷ replicate 5 0x01 ++ 0x20 ∷ 0x00 ∷ 0x00 ∷ power_cut ∷ 0x21 ∷ 0x20 ∷ replicate 4 0x00
 
 pub cut_again : ends rows lost bytes_cut_again ≡ record {
@@ -91,21 +76,9 @@ pub cut_again : ends rows lost bytes_cut_again ≡ record {
 unfolding rows lost bytes_cut_again through row_numbered first count value_in bit_in swapped_in bit_of turn_of flips_in is_swapped one_past place insert spoken tried_in storing_in decide_in step_turn_in applied apply proc_at turn_in act_in step_in begin
 cut_again = refl
 
-cut_again_recovers : recovers_with_cuts (step rows) 2 15 bytes_cut_again (dark (step rows) 2 rows (7 ∷ []) lost) ≡ true
-unfolding rows lost bytes_cut_again all_idle recovers_with_cuts through row_numbered first count value_in bit_in swapped_in bit_of turn_of flips_in tried_in storing_in decide_in step_turn_in applied apply proc_at turn_in act_in step_in begin
-cut_again_recovers = refl
-
-pub safe_cut_again : Safe (step rows) 2 rows (7 ∷ []) (cut (step rows) 2 rows (7 ∷ []) lost) (end_of (step rows) 2 rows (7 ∷ []) lost bytes_cut_again)
-unfolding lost
-safe_cut_again = (leaves rows (7 ∷ []) 2 plan lost).safe_with_cuts bytes_cut_again (is_recovery_with_cuts (step rows) 2 15 bytes_cut_again (dark (step rows) 2 rows (7 ∷ []) lost) cut_again_recovers)
-
 -- cut one byte later: worker 0 has stored false, and its log row is there. Now it needs V1 V5 and is told false
-pub stored : List ℕ
+unfoldable pub stored : List ℕ
 stored = replicate 4 0x00 ++ (replicate 7 0x01 ++ replicate 4 0x00)
-
-pub two_and_five : (steps_of rows stored 0 ≡ 2) × (steps_of rows stored 1 ≡ 5)
-unfolding rows stored through steps_by row_numbered first count value_in bit_in swapped_in bit_of turn_of flips_in tried_in storing_in decide_in step_turn_in applied apply proc_at turn_in act_in step_in begin
-two_and_five = (refl, refl)
 
 pub told_false : ends rows stored (0x20 ∷ replicate 2 0x00 ++ 0x21 ∷ replicate 5 0x01) ≡ record {
   words = 8589934601 ∷ [];
@@ -117,12 +90,8 @@ told_false = refl
 
 -- Two advances of a mark at 7, by 5 and by 3. Worker 1 has moved the mark on, worker 0 has lost and gone back to A1 (R118); worker 1 is told the value
 -- before, as the log has it, and worker 0 fail
-pub marks : List Row
+unfoldable pub marks : List Row
 marks = record { process = 0; kind = 2; word = 0; old = 0; new = 5 } ∷ record { process = 1; kind = 2; word = 0; old = 0; new = 3 } ∷ []
-
-pub marks_leave : (before : List ℕ) → Leaves (step marks) 2 marks (7 ∷ []) before
-unfolding marks passes all_pass same_fields
-marks_leave before = leaves marks (7 ∷ []) 2 (planned 2 1 marks (omega arith) refl) before
 
 pub told_was : ends marks lost (0x20 ∷ replicate 4 0x00 ++ 0x21 ∷ replicate 5 0x01) ≡ record {
   words = 8589934602 ∷ [];

@@ -5,7 +5,6 @@ pub mod Since
 pub mod Dark
 pub mod Through
 pub mod InTurn
-pub mod PowerCut
 pub mod File
 pub mod Told
 pub mod Computed

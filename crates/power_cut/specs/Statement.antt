@@ -3,8 +3,8 @@
 -- each operation that was open at the cut is answered exactly as the log has it, or with fail if it is not there; no other answer is added.
 --
 -- Here is every definition that the claim (`Leaves`) rests on, beside those of the process record and of demand 3's statement. It is said of any
--- machine that has the bench machine's states, so that wrong ones can be held against it (`Wrong.antt`). `PowerCut.antt` proves it of the bench
--- machine for all rows that pass the refusals and for all bytes, `File.antt` of every run file that is not refused.
+-- machine that has the bench machine's states, so that wrong ones can be held against it (`Wrong.antt`). `proofs/PowerCut.antt` proves it of the bench
+-- machine for all rows that pass the refusals and for all bytes, `proofs/File.antt` of every run file that is not refused.
 use Rattle.std.specs.Prelude.{ℕ, zero, suc, ◌+◌, ◌≤◌, ◌<◌, ◌≡◌, Bool, true, false, List, [], ◌∷◌, ◌++◌, map, eqb, length, replicate}
 use Rattle.runfile.specs.declared.Row.{Row}
 use Rattle.runfile.specs.Actions.{Action, step as steps, wake as wakes, action, named}

@@ -25,8 +25,9 @@ use Rattle.power_cut.specs.Statement.{power_cut, steps_by, steps_for, in_turn, k
 use Rattle.power_cut.specs.OneByte.{to_do_at, to_do}
 use Rattle.power_cut.specs.Since.{Since, since_join}
 use Rattle.power_cut.specs.Dark.{down, absent, recovering, since-cut}
-use Rattle.power_cut.specs.Through.{Healed, healed_with_cuts, with_cuts}
-use Rattle.power_cut.specs.Through as bytewise
+use Rattle.power_cut.specs.Through.{Healed, with_cuts}
+use Rattle.power_cut.proofs.Through.{healed_with_cuts}
+use Rattle.power_cut.proofs.Through as bytewise
 use Rattle.power_cut.specs.InTurn.{in_turn_done, in_turn-named}
 
 few_steps : (stored : Maybe) (checkpoint same : Bool) → steps_by stored checkpoint same ≤ 5
