@@ -1,11 +1,10 @@
--- The claim at two small inputs, and what its premises are for. Process 0 and word 0 belong to proxy one, process 1 and word 1 to proxy two. Two inputs that
--- differ in proxy two's row, start word and bytes: proxy one sees the same. And three pairs of inputs, each with one premise dropped, in which a proxy
--- does see what the other did: a row on the other's word, F0 replaced, another number of rows. By computation.
+-- Two small inputs, and what the premises of the claim are for. Process 0 and word 0 belong to proxy one, process 1 and word 1 to proxy two. Two inputs that
+-- differ in proxy two's row, start word and bytes. And three pairs of inputs, each with one premise dropped, in which a proxy does see what the other
+-- did: a row on the other's word, F0 replaced, another number of rows. By computation; what rests on the claim is in `proofs/Instances.antt`.
 use Rattle.std.specs.Prelude.{ℕ, ◌≡◌, refl, [], ◌∷◌, ◌++◌, get_or, replicate}
 use Rattle.std.proofs.Common.{sym, ◌∙◌, ap, arith}
 use Rattle.runfile.specs.declared.Row.{Row}
 use Rattle.runfile.specs.Operations.{row_numbered, first, count}
-use Rattle.runfile.specs.Refusals.{same_fields}
 use Rattle.word.specs.Word.{value_in, bit_in, swapped_in, bit_of, turn_of, flips_in}
 use Rattle.rows.specs.declared.Entry.{Entry}
 use Rattle.rows.specs.Entries.{is_swapped}
@@ -15,12 +14,9 @@ use Rattle.machine.specs.declared.Maybe.TheVariants.{None, Is}
 use Rattle.machine.specs.Steps.{entry, spoken, tried_in, storing_in, decide_in, step_turn_in}
 use Rattle.machine.specs.Machine.{turn_in, apply, applied, proc_at, act_in, step, step_in, begin}
 use Rattle.demand3.specs.Statement.{through}
-use Rattle.demand3.specs.Planned.{passes, all_pass}
-use Rattle.proxies.specs.Statement.{one, two, Split, proxy_of, owns, part, Input, Accepted, DifferOnlyInOther, entries_of, Seen, seen_at_end}
-use Rattle.proxies.specs.Proxies.{unseen}
-use Rattle.proxies.specs.Computed.{all_own, accepts, other_byte, replaced, is_replaced}
+use Rattle.proxies.specs.Statement.{one, two, Split, proxy_of, owns, part, Input, entries_of, Seen, seen_at_end}
 
-abbrev split : Split
+abbrev pub split : Split
 split = record { processes = 1; words = 1 }
 
 abbrev read : (process word : ℕ) → Row
@@ -32,37 +28,21 @@ compare process word old new = record { process = process; kind = 1; word = word
 abbrev advance : (process word amount : ℕ) → Row
 advance process word amount = record { process = process; kind = 2; word = word; old = 0; new = amount }
 
-abbrev one_sees : Input → Seen
+abbrev pub one_sees : Input → Seen
 one_sees = seen_at_end split one step 2
 
-abbrev two_sees : Input → Seen
+abbrev pub two_sees : Input → Seen
 two_sees = seen_at_end split two step 2
 
 -- process 0 advances word 0 and process 1 compares word 1, by turns, and then the power is cut; or process 1 reads another word 1, and is crashed and woken
 -- on the way
-pub here : Input
+unfoldable pub here : Input
 here = record { rows = advance 0 0 5 ∷ compare 1 1 7 9 ∷ []; words = 7 ∷ 7 ∷ []; schedule = 0x00 ∷ 0x01 ∷ 0x00 ∷ 0x01 ∷ 0x00 ∷ 0x01 ∷ 0x00 ∷ 0x01 ∷ 0x00 ∷ 0x00 ∷ 0x00 ∷ 0x00 ∷ 0xF0 ∷ [] }
 
-pub there : Input
+unfoldable pub there : Input
 there = record { rows = advance 0 0 5 ∷ read 1 1 ∷ []; words = 7 ∷ 500 ∷ []; schedule = 0x00 ∷ 0x11 ∷ 0x00 ∷ 0x21 ∷ 0x00 ∷ 0x01 ∷ 0x00 ∷ 0x11 ∷ 0x00 ∷ 0x00 ∷ 0x00 ∷ 0x00 ∷ 0xF0 ∷ [] }
 
-accepted_here : Accepted split 2 here
-unfolding here passes all_pass same_fields all_own proxy_of
-accepted_here = accepts split 2 here (omega arith) refl refl
-
-accepted_there : Accepted split 2 there
-unfolding there passes all_pass same_fields all_own proxy_of
-accepted_there = accepts split 2 there (omega arith) refl refl
-
-differ : DifferOnlyInOther split one here there
-unfolding here there owns proxy_of part replaced other_byte
-differ = record { own_rows = refl; as_many_rows = refl; own_words = refl; schedule = is_replaced split one here.schedule there.schedule refl }
-
--- the claim applies
-pub looks_the_same : one_sees here ≡ one_sees there
-looks_the_same = unseen split 2 one here there accepted_here accepted_there differ
-
--- and what proxy one sees is its advance, at position 10; proxy two sees other words of its own
+-- what proxy one sees is its advance, at position 10; proxy two sees other words of its own
 pub its_own : one_sees here ≡ record { words = 4294967308 ∷ []; log = entry 10 0 0 (Is (Was 7)) ∷ []; answers = [] }
 unfolding here through owns proxy_of part entries_of row_numbered first count value_in bit_in swapped_in bit_of turn_of flips_in is_swapped one_past place insert spoken tried_in storing_in decide_in step_turn_in applied apply proc_at turn_in act_in step_in begin
 its_own = refl
@@ -71,27 +51,12 @@ pub not_its_own : ((two_sees here).words ≡ 7 ∷ []) × ((two_sees there).word
 unfolding here there through owns proxy_of part row_numbered first count value_in bit_in swapped_in bit_of turn_of flips_in tried_in storing_in decide_in step_turn_in applied apply proc_at turn_in act_in step_in begin
 not_its_own = (refl, refl)
 
--- Refusal 17 is needed: process 1 reads word 0, or swaps on it
-pub reading : Input
+-- Refusal 17 is needed: process 1 reads word 0, or swaps on it (`on_the_others_word` in `proofs/Instances.antt`)
+unfoldable pub reading : Input
 reading = record { rows = read 1 0 ∷ []; words = 7 ∷ 7 ∷ []; schedule = replicate 7 0x01 }
 
-pub swapping : Input
+unfoldable pub swapping : Input
 swapping = record { rows = compare 1 0 7 9 ∷ []; words = 7 ∷ 7 ∷ []; schedule = replicate 7 0x01 }
-
-word_read : get_or (one_sees reading).words 0 0 ≡ 7
-unfolding reading through part row_numbered first count value_in bit_in swapped_in bit_of turn_of flips_in tried_in storing_in decide_in step_turn_in applied apply proc_at turn_in act_in step_in begin
-word_read = refl
-
-word-swapped : get_or (one_sees swapping).words 0 0 ≡ 8589934601
-unfolding swapping through part row_numbered first count value_in bit_in swapped_in bit_of turn_of flips_in tried_in storing_in decide_in step_turn_in applied apply proc_at turn_in act_in step_in begin
-word-swapped = refl
-
-pub on_the_others_word : DifferOnlyInOther split one reading swapping × (one_sees reading ≡ one_sees swapping → ⊥)
-unfolding reading swapping owns proxy_of part replaced other_byte
-on_the_others_word = (
-  record { own_rows = refl; as_many_rows = refl; own_words = refl; schedule = is_replaced split one (replicate 7 0x01) (replicate 7 0x01) refl },
-  λ e. let z : ◌≡◌ {A = ℕ} 7 8589934601 = sym word_read ∙ ap (λ v. get_or v.words 0 0) e ∙ word-swapped in omega arith,
-)
 
 -- F0 stays where it is, for it is no byte of the other proxy: process 0 is brought down before its A4, or goes on
 pub with_byte : ℕ → Input

@@ -6,10 +6,7 @@ pub mod Tables
 pub mod Owners
 pub mod Bytes
 pub mod Sides
-pub mod OneByte
-pub mod Proxies
 pub mod Rest
-pub mod Resting
 pub mod Alone
 pub mod Computed
 pub mod Wrong

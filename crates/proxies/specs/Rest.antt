@@ -1,5 +1,5 @@
 -- The other proxy put to rest: what is said in `Alone.antt` of inputs in which the other's processes take no steps. Two ways of replacing its bytes by others
--- of that proxy, and what they come to; `Resting.antt` has the proofs.
+-- of that proxy, and what they come to; `proofs/Resting.antt` has the proofs.
 use Rattle.std.specs.Prelude.{ℕ, suc, ◌+◌, ◌≡◌, Bool, true, cond, List, [], ◌∷◌}
 use Rattle.runfile.specs.declared.Row.{Row}
 use Rattle.runfile.specs.Actions.{Action, step as steps, crash as crashes, wake as wakes, crash_all as crashes_all, none as idles, action, named}

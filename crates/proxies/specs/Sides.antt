@@ -1,10 +1,9 @@
--- A proxy's side of a state: what it sees, and the records of its processes, which no one sees and on which all that it will see depends. Two states
--- with the same side are seen the same.
+-- A proxy's side of a state: what it sees, and the records of its processes, which no one sees and on which all that it will see depends.
 use Rattle.std.specs.Prelude.{◌≡◌, List, ℕ}
 use Rattle.rows.specs.declared.Entry.{Entry}
 use Rattle.machine.specs.declared.Process.{Process}
 use Rattle.machine.specs.Machine.{State}
-use Rattle.proxies.specs.Statement.{Proxy, Split, part, entries_of, seen_of}
+use Rattle.proxies.specs.Statement.{Proxy, Split, part, entries_of}
 
 pub record Side : Type 0 where
   pub words : List ℕ
@@ -19,6 +18,3 @@ side_same e f g h = λ i. record { words = e i; records = f i; log = g i; answer
 module _ (split : Split) (x : Proxy) where
   abbrev pub side : State → Side
   side s = record { words = part x split.words s.words; records = part x split.processes s.processes; log = entries_of split x s.log; answers = entries_of split x s.answers }
-
-  pub side-seen : (s s' : State) → side s ≡ side s' → seen_of split x s ≡ seen_of split x s'
-  side-seen s s' e = λ i. record { words = (e i).words; log = (e i).log; answers = (e i).answers }

@@ -4,8 +4,8 @@
 --
 -- Here is every definition that the claim rests on, beside those of the machine's states and of the rows that pass the refusals. What a proxy may see
 -- is one definition (`seen`), and when two inputs differ only in the other proxy is one (`DifferOnlyInOther`). The claim is said of any machine that has
--- the bench machine's states, so that wrong ones can be held against it (`Wrong.antt`). `Proxies.antt` proves it of the bench machine, `Alone.antt` says
--- what it comes to for whoever looks at one proxy alone.
+-- the bench machine's states, so that wrong ones can be held against it (`Wrong.antt`). `proofs/Proxies.antt` proves it of the bench machine,
+-- `proofs/Alone.antt` says what it comes to for whoever looks at one proxy alone.
 use Rattle.std.specs.Prelude.{ℕ, ◌<◌, ◌≡◌, Bool, true, false, cond, List, [], ◌∷◌, ltb, length, take, drop}
 use Rattle.runfile.specs.declared.Row.{Row}
 use Rattle.runfile.specs.Actions.{crash_all as crashes_all, action, named}

@@ -1,5 +1,5 @@
--- Two tables of rows that differ only in the other proxy's rows: a row of this proxy is the same in both, its processes' rows have the same numbers,
--- and the same row numbers name rows on its words. Row by row.
+-- Two tables of rows that differ only in the other proxy's rows: a row of this proxy is the same in both, and its processes' rows have the same numbers.
+-- Row by row.
 use Prim.Native.Nat.{ℕ, zero, suc, ◌<◌}
 use Rattle.std.specs.Prelude.{◌≡◌, Bool, true, false, ◌&&◌, eqb, ltb, length}
 use Rattle.std.proofs.Math.Path.{refl, ap, ap₂}
@@ -12,7 +12,7 @@ use Rattle.rows.specs.declared.Entry.{Entry}
 use Rattle.rows.specs.Entries.{said, is_swapped}
 use Rattle.rows.specs.Log.{is_swap}
 use Rattle.replay.specs.Lists.{All}
-use Rattle.proxies.specs.Statement.{Proxy, Split, is_proxy, owns, Paired, Replaced, same, other, OnOwnWord}
+use Rattle.proxies.specs.Statement.{Proxy, Split, owns, Paired, Replaced, same, other}
 use Rattle.proxies.specs.Rows.{OtherRow}
 use Rattle.proxies.specs.Parts.{apart, other_side}
 
@@ -83,21 +83,3 @@ module _ (split : Split) (x : Proxy) where
     count_same [] (r' ∷ rows') h = absurd h
     count_same (r ∷ rows) [] h = absurd h
     count_same (r ∷ rows) (r' ∷ rows') (d, h) = ap₂ (λ c n. cond c (suc n) n) (mine-same r r' d) (count_same rows rows' h)
-
-  -- the word of a row is on the side of its process
-  pub on_side : (row : Row) → OnOwnWord split row → owns x split.words row.word ≡ owns x split.processes row.process
-  unfolding owns
-  on_side row h = ap (is_proxy x) h
-
-  module _ (w : ℕ) (own : owns x split.words w ≡ true) where
-    on_same : (r r' : Row) → OnOwnWord split r → OnOwnWord split r' → Replaced (OtherRow split x) r r' → eqb r.word w ≡ eqb r'.word w
-    on_same r r' a a' (same e) = ap (λ r. eqb r.word w) e
-    on_same r r' a a' (other b b') = ne_eqb r.word w (apart x split.words r.word w (on_side r a ∙ b) own) ∙ sym (ne_eqb r'.word w (apart x split.words r'.word w (on_side r' a' ∙ b') own))
-
-    pub names_same : (rows rows' : List Row) → All (OnOwnWord split) rows → All (OnOwnWord split) rows' → Tables rows rows' → (k : ℕ) → names rows k w ≡ names rows' k w
-    unfolding names
-    names_same [] [] a a' h k = refl
-    names_same [] (r' ∷ rows') a a' h k = absurd h
-    names_same (r ∷ rows) [] a a' h k = absurd h
-    names_same (r ∷ rows) (r' ∷ rows') a a' (d, h) zero = on_same r r' a.0 a'.0 d
-    names_same (r ∷ rows) (r' ∷ rows') a a' (d, h) (suc k) = names_same rows rows' a.1 a'.1 h k

@@ -11,11 +11,12 @@ use Rattle.demand3.specs.Statement.{state_after, end_state}
 use Rattle.demand3.specs.FlipBit.{flip_bit, through-after}
 use Rattle.proxies.specs.Statement.{Proxy, Split, Input, Paired, Replaced, same, other, OnOwnWord, Accepted, OtherByte, DifferOnlyInOther, UnseenThroughout, Unseen}
 use Rattle.proxies.specs.Bytes.{Whose, everyone, own, others, whose}
-use Rattle.proxies.specs.Sides.{side, side_same, side-seen}
+use Rattle.proxies.specs.Sides.{side, side_same}
+use Rattle.proxies.proofs.Sides.{side-seen}
 use Rattle.proxies.specs.Rows.{OtherRow, row_by_row}
 use Rattle.proxies.specs.Tables.{all_rows}
 use Rattle.proxies.specs.Owners.{Tidy, Known, tidy, known_step, known_begin}
-use Rattle.proxies.specs.OneByte.{byte_other, byte-same, byte_all}
+use Rattle.proxies.proofs.OneByte.{byte_other, byte-same, byte_all}
 
 paired-take : {A : Type 0} (Q : A → A → Type 0) (n : ℕ) (l m : List A) → Paired Q l m → Paired Q (take n l) (take n m)
 paired-take Q zero l m h = tt

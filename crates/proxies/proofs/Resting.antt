@@ -19,7 +19,7 @@ use Rattle.proxies.specs.Statement.{Proxy, Split, owns, Input, Paired, Replaced,
 use Rattle.proxies.specs.Parts.{other_than, not_both_own, apart, part_at}
 use Rattle.proxies.specs.Sides.{side}
 use Rattle.proxies.specs.Owners.{Known, known_step}
-use Rattle.proxies.specs.Proxies.{next_side}
+use Rattle.proxies.proofs.Proxies.{next_side}
 use Rattle.proxies.specs.Bytes.{is_all, not_all, by_whose_lem}
 use Rattle.proxies.specs.Rest.{passed_over, resting, rest, NoStepsOf, Fits, NoSlips}
 

@@ -25,7 +25,8 @@ use Rattle.proxies.specs.Sides.{side, side_same}
 use Rattle.proxies.specs.Rows.{OtherRow}
 use Rattle.proxies.specs.Parts.{part_set_other, part_set_own, part_at, part-map}
 use Rattle.proxies.specs.Filters.{insert_other, insert_own, last_other, last_own, swap_kept, swap_tables}
-use Rattle.proxies.specs.Tables.{swap_unnamed, swap_by_name, row_has, named_there, row_same, first-same, count_same, on_side, names_same}
+use Rattle.proxies.specs.Tables.{swap_unnamed, swap_by_name, row_has, named_there, row_same, first-same, count_same}
+use Rattle.proxies.proofs.Tables.{on_side, names_same}
 use Rattle.proxies.specs.Owners.{quiet_or_open, Owned, OwnOpen, Tidy}
 
 module _ (split : Split) (x : Proxy) where

@@ -1,0 +1,9 @@
+pub mod Sides
+pub mod Tables
+pub mod OneByte
+pub mod Proxies
+pub mod Resting
+pub mod Alone
+pub mod Computed
+pub mod Wrong
+pub mod Instances
