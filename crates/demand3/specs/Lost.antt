@@ -26,7 +26,7 @@ use Rattle.demand3.specs.Invariant.{Times, has_swapped, HasSwap, Pending, won, h
 use Rattle.demand3.specs.Plans.{Plan}
 use Rattle.demand3.specs.Answers.{answer_false, answer_never, says_not_false}
 use Rattle.demand3.specs.Own.{open_same}
-use Rattle.demand3.specs.Order.{Always, start, inv}
+use Rattle.demand3.specs.Order.{Always, inv}
 
 none_is : {a : Answer} → None ≡ Is a → ⊥
 none_is e = let z : ◌≡◌ {A = ℕ} 0 1 = cc in omega arith
