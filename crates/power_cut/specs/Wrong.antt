@@ -15,7 +15,7 @@ use Rattle.demand3.specs.Rule.{step_by}
 use Rattle.demand3.specs.Wrong.{by_value}
 use Rattle.power_cut.specs.Statement.{cut, end_of}
 
-abbrev pub compare : (process old new : ℕ) → Row
+abbrev compare : (process old new : ℕ) → Row
 compare process old new = record { process = process; kind = 1; word = 0; old = old; new = new }
 
 -- 1. A V3 that goes by whether the value is new (R280), in place of the own flip bit and the kept bit (R123). Two workers move 7 to 8. Worker 0 stands

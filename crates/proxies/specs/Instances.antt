@@ -31,7 +31,7 @@ advance process word amount = record { process = process; kind = 2; word = word;
 abbrev pub one_sees : Input → Seen
 one_sees = seen_at_end split one step 2
 
-abbrev pub two_sees : Input → Seen
+abbrev two_sees : Input → Seen
 two_sees = seen_at_end split two step 2
 
 -- process 0 advances word 0 and process 1 compares word 1, by turns, and then the power is cut; or process 1 reads another word 1, and is crashed and woken
