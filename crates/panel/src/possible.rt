@@ -250,6 +250,7 @@ fn wrong_kind(kind: Kind, opened: Opened, stored: Maybe, status: Status) -> bool
 }
 
 // What is wrong with a record by its counts and its open row.
+#[tactic(auto, unfolding(crate::specs::Possible::misplaced))]
 pub fn misplaced(first: u16, count: u16, process: Process) -> bool
     ensures { result ≡ possible.misplaced first count process }
 {
@@ -272,6 +273,7 @@ pub fn misplaced(first: u16, count: u16, process: Process) -> bool
 }
 
 // What is wrong with it by what it does on a row of this kind.
+#[tactic(auto, unfolding(crate::specs::Possible::misdone))]
 pub fn misdone(kind: Kind, process: Process) -> bool
     ensures { result ≡ possible.misdone kind process }
 {
