@@ -8,6 +8,7 @@ use lib.ListN.{length, set, get_or, take, drop}
 use lib.Seq.{length-take-le, length_front, take-suc, drop-cons, set_at}
 use Rattle.machine.specs.declared.Process.{Process}
 use Rattle.machine.specs.Records.{nobody}
+use Rattle.machine.specs.Laws.{get_or_either}
 use Rattle.panel.specs.Laid.{laid}
 
 -- the bytes before a record fit a word (64 is the size of a record)
@@ -39,3 +40,7 @@ laid_more i a b r among over e =
   where
     suc_is : (k : ℕ) → suc k ≡ k + 1
     suc_is k = omega arith
+
+-- so, of a table and what it is then
+pub laid_turn : (i : ℕ) (a b t u : List Process) (d : Process) → i < length a → i < length b → t ≡ laid i a b → u ≡ set t i (get_or a i d) → u ≡ laid (i + 1) a b
+laid_turn i a b t u d among over e q = q ∙ ap (λ (l : List Process). set l i (get_or a i d)) e ∙ laid_more i a b _ among over (get_or_either a i d nobody among)

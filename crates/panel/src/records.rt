@@ -58,7 +58,8 @@ pub fn take(records: &[Process], n: usize) -> [Process; 16]
     let mut i = 0;
     while i < n {
         let process = records[i];
-        table = with_record(table, i, process);
+        let next = with_record(table, i, process);
+        table = next;
         i = i + 1;
     }
     table
