@@ -1,4 +1,4 @@
--- What the callees of `key` say comes to what it promises: the only step of its walk that is about the specification.
+-- What the callees of `key` say comes to what it promises.
 use mathlib.Core.Path.{◌≡◌, ◌∙◌, ap, ap₂, subst}
 use Prim.Native.Nat.{ℕ, min}
 use mathlib.Core.List.{List}

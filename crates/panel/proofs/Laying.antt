@@ -1,4 +1,4 @@
--- Facts of `laid`, and of the places of records in memory, that the walks of `take` and `give` share.
+-- Facts of `laid` that the proofs of `take` and `give` share: nothing laid, and one record more.
 use mathlib.Core.Path.{◌≡◌, refl, sym, ◌∙◌, ap}
 use Prim.Native.Nat.{ℕ, suc, ◌+◌, ◌*◌, ◌^◌, ◌≤◌, ◌<◌}
 use native.Mathlib.Nat.{le_of_lt}
@@ -11,17 +11,9 @@ use Rattle.machine.specs.Records.{nobody}
 use Rattle.machine.specs.Laws.{get_or_either}
 use Rattle.panel.specs.Laid.{laid}
 
--- the bytes before a record fit a word (64 is the size of a record)
-pub place-fits : (i n : ℕ) → i < n → n * 64 < 2 ^ 63 → i * 64 < 2 ^ 64
-place-fits i n l r = omega arith
-
 pub laid_none : (a b : List Process) → b ≡ laid 0 a b
 unfolding laid
 laid_none a b = refl
-
-pub laid-length : (i : ℕ) (a b : List Process) → i ≤ length a → i ≤ length b → length (laid i a b) ≡ length b
-unfolding laid
-laid-length i a b among over = length_front b (take i a) i (length-take-le i a among ∙ sym (length-take-le i b over))
 
 one_more : (a b : List Process) (x : Process) → (a ++ x ∷ []) ++ b ≡ a ++ x ∷ b
 one_more [] b x = refl

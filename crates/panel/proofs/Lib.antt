@@ -1,4 +1,3 @@
-pub mod Tests
 pub mod Laying
 pub mod Sixteen
 pub mod Joined

@@ -77,8 +77,7 @@ pub fn why_number(why: Why) -> u32
     }
 }
 
-// The records that `press` left, by a function of its own: in a proof by hand, as that of `key`, a field that is an array
-// of structs cannot be read.
+// The records that `press` left.
 fn processes_of(after: After) -> [Process; 16]
     ensures { result ≡ after.processes }
 {
@@ -86,7 +85,7 @@ fn processes_of(after: After) -> [Process; 16]
     processes
 }
 
-// Likewise a struct that holds such a field cannot be built there.
+// The table of these records, of which the first `held` are the caller's.
 fn table_of(processes: [Process; 16], held: usize) -> Table
     ensures { (result.processes ≡ processes) × (result.held ≡ held) }
 {
