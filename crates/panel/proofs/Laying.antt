@@ -1,11 +1,11 @@
 -- Facts of `laid` that the proofs of `take` and `give` share: nothing laid, and one record more.
 use mathlib.Core.Path.{◌≡◌, refl, sym, ◌∙◌, ap}
-use Prim.Native.Nat.{ℕ, suc, ◌+◌, ◌*◌, ◌^◌, ◌≤◌, ◌<◌}
+use Prim.Native.Nat.{ℕ, suc, ◌+◌, ◌<◌}
 use native.Mathlib.Nat.{le_of_lt}
 use native.Mathlib.Omega.{arith}
 use mathlib.Core.List.{List, [], ◌∷◌, ◌++◌}
 use lib.ListN.{length, set, get_or, take, drop}
-use lib.Seq.{length-take-le, length_front, take-suc, drop-cons, set_at}
+use lib.Seq.{length-take-le, take-suc, drop-cons, set_at}
 use Rattle.machine.specs.declared.Process.{Process}
 use Rattle.machine.specs.Records.{nobody}
 use Rattle.machine.specs.Laws.{get_or_either}

@@ -4,3 +4,5 @@ pub mod Joined
 pub mod Ors
 pub mod Search
 pub mod Whole
+pub mod Fits
+pub mod Frame

@@ -31,7 +31,7 @@ use Rattle.panel.specs.declared.Verdict.{Verdict}
 use Rattle.panel.specs.declared.Verdict.TheVariants.{Fine, Not}
 use Rattle.panel.specs.declared.Why.TheVariants.{Run, Record, Key}
 use Rattle.panel.specs.declared.Outcome.TheVariants.{Went, Refused}
-use Rattle.panel.specs.Fits.{not_fine, list_room}
+use Rattle.panel.proofs.Fits.{not_fine, list_room}
 use Rattle.panel.specs.Longer.{grows}
 use Rattle.panel.specs.Laid.{blank, laid}
 use Rattle.panel.specs.Possible.{any_impossible}

@@ -1,5 +1,5 @@
--- What a key leaves alone (R204, R206, R222), for every file, every list of records and all buffers: by what a byte leaves alone in the machine. And
--- that a crash or a wake that is carried out leaves the record named not as it was (R226).
+-- What a key that is carried out leaves alone (R204, R206), by what a byte leaves alone in the machine; and that a crash or a wake leaves the record
+-- named not as it was (R226). For every file, every list of records and all buffers, a refused key among them (R222): `frame` in proofs/Frame.
 use Rattle.std.specs.Prelude.{ℕ, ◌+◌, ◌*◌, ◌-◌, ◌≤◌, ◌<◌, ◌≡◌, true, false, List, ◌++◌, ◌≢◌, leb, ltb}
 use Rattle.std.proofs.Math.Path.{refl, sym, ap, ap₂, subst}
 use Rattle.std.proofs.Common.{◌∙◌, take-append-drop, length-drop, drop_at, get_or-drop, get_or-set_other}
@@ -30,15 +30,10 @@ use Rattle.machine.specs.Awake.{awake-down, Strikes}
 use Rattle.machine.proofs.Awake.{awake-byte}
 use Rattle.run.specs.Run.{room_of}
 use Rattle.panel.specs.declared.Stroke.{Stroke}
-use Rattle.panel.specs.declared.Table.{Table}
 use Rattle.panel.specs.declared.Outcome.TheVariants.{Went, Refused}
 use Rattle.panel.specs.declared.Why.{Why}
-use Rattle.panel.specs.declared.Verdict.{Verdict}
-use Rattle.panel.specs.declared.Verdict.TheVariants.{Fine, Not}
 use Rattle.panel.specs.Longer.{grows}
-use Rattle.panel.specs.Fits.{fit, fine_file}
-use Rattle.panel.specs.Press.{Lent, lent, verdict_of, state_of, stepped, Pressed, carried, pressed_as, pressed, Fit}
-use Rattle.panel.specs.Key.{keyed}
+use Rattle.panel.specs.Press.{Lent, lent, state_of, stepped, Pressed, carried, Fit}
 
 -- a word that the row is not on
 word_stays : (rows : List Row) (log : List Entry) (p t k w : ℕ) (u : Turn) (words : List ℕ) (j : ℕ) → j ≢ w → get_or (words_after (effect_of rows log p t k w u) words) j 0 ≡ get_or words j 0
@@ -209,7 +204,7 @@ module _ (h : Header) (f : List ℕ) (records : List Process) (words log answers
         ∙ ap (λ ns. get_or ns i 0) (flat-rows_of k.answers answers (omega arith))
         ∙ get_or-take (k.answers * 5) answers i 0 g
 
-    frame_carried : Frame h f l k (carried h f l k)
+    pub frame_carried : Frame h f l k (carried h f l k)
     frame_carried = record {
       others = other;
       past-P = past;
@@ -229,21 +224,3 @@ module _ (h : Header) (f : List ℕ) (records : List Process) (words log answers
 pub data Comes (f : List ℕ) (l : Lent) (k : Stroke) (p : Pressed) : Type 0 where
   refused : (why : Why) (place : ℕ) → p ≡ record { outcome = Refused why place; processes = l.processes; words = l.words; log = l.log; answers = l.answers } → Comes f l k p
   went : (h : Header) → file_refusal f ≡ checked.Accepted h → (m a : ℕ) → p.outcome ≡ Went m a → Frame h f l k p → Comes f l k p
-
--- whatever is lent, and whatever the key
-module _ (f : List ℕ) (records : List Process) (words log answers : List ℕ) (key : Stroke) where
-  abbrev lends : Lent
-  lends = lent records words log answers
-
-  abbrev whole : Table
-  whole = record { processes = records; held = length records }
-
-  pub frame : Comes f lends key (keyed f records words log answers key)
-  unfolding keyed pressed
-  frame = go (verdict_of f whole (room_of words log answers) key) refl
-    where
-      go : (v : Verdict) → verdict_of f whole (room_of words log answers) key ≡ v → Comes f lends key (pressed_as v f lends key)
-      go (Not why place) e = refused why place refl
-      go (Fine h) e =
-          let file = fine_file f whole (room_of words log answers) key h e in
-          went h file.0 _ _ refl (frame_carried h f records words log answers key (fit f whole (room_of words log answers) key h e) file.1)

@@ -1,6 +1,6 @@
 -- `sound_verdict` meets its contract: the tests in their order; the records are searched over the file's part that is its table.
 use Rattle.std.proofs.Common.{◌≡◌, refl, sym, ◌∙◌, ℕ, ◌-◌, ◌≤◌, Bool, true, false, cond, List, length, take, drop}
-use borrow.Author.Tests.{lt-ltb, le-ltb}
+use borrow.Author.Tests.{le-ltb}
 use Rattle.runfile.specs.declared.Header.{Header}
 use Rattle.runfile.specs.declared.Refusal.TheVariants.{Idle}
 use Rattle.runfile.specs.Layout.{stride_of, rows_start}
@@ -12,7 +12,6 @@ use Rattle.run.specs.Parts.{part_all, lined-part, table-part}
 use Rattle.machine.specs.declared.Process.{Process}
 use Rattle.panel.specs.declared.Stroke.{Stroke}
 use Rattle.panel.specs.declared.Why.TheVariants.{Run, Record, Key}
-use Rattle.panel.specs.declared.Verdict.{Verdict}
 use Rattle.panel.specs.declared.Verdict.TheVariants.{Fine, Not}
 use Rattle.panel.specs.Possible.{any_impossible}
 use Rattle.panel.specs.Press.{idle_key, sound}

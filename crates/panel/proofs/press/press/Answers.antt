@@ -7,7 +7,7 @@ use Rattle.machine.specs.declared.Process.{Process}
 use Rattle.run.specs.Run.{room_of}
 use Rattle.panel.specs.declared.Stroke.{Stroke}
 use Rattle.panel.specs.Press.{lent, Fit}
-use Rattle.panel.specs.Fits.{fit}
+use Rattle.panel.proofs.Fits.{fit}
 use Rattle.panel.proofs.Whole.{able_in, went, was_refused, was_fine}
 use Rattle.panel.proofs.press.press.Goals as goal
 
