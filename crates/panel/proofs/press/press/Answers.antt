@@ -28,7 +28,7 @@ slice_bounds-run_bytes-start c =
     let e = rows_in _ _ _ _ _ ft _ c.rows_start-rows_at.ensures.0 in
     search rules
 
-pub run_bytes-left-requires : goal.run_bytes-left-requires-clause-able
+pub run_bytes-left-requires : goal.run_bytes-left-requires
 run_bytes-left-requires c =
     let b = c.args in
     let ft = fit b.file.now b.table (room_of b.words.now b.log.now b.answers.now) b.key _ (sym c.in-Fine.ensures) in
