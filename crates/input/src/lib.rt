@@ -1,12 +1,31 @@
 // How a program reads a run file.
 #![tactic(auto)]
 
+ghost use Rattle.std.specs.Counts.{IsPrefixLen};
 ghost use Rattle.input.specs.Promises.{Reads};
 
-// Reads a run file from an open descriptor, and answers how many bytes stand in front. Of a file that is longer than any
-// run file the first bytes are read: with those it comes to what the whole file comes to (`first-bytes`, run/specs).
-pub fn read_file(fd: i32, file: &mut [u8; runfile::ENOUGH_BYTES]) -> usize
+use std::io::Read;
+
+// Reads until the buffer is full, the input ends or a read fails, and answers how many bytes stand in front. An empty buffer
+// is answered without a read.
+pub fn read_full<R: Read>(from: &mut R, buffer: &mut [u8]) -> usize
+    ensures { IsPrefixLen result buffer.new }
+{
+    let mut done = 0;
+    while done < buffer.len() {
+        match from.read(&mut buffer[done..]) {
+            Ok(0) => break,
+            Ok(n) => done += n,
+            Err(_) => break,
+        }
+    }
+    done
+}
+
+// Reads a run file, and answers how many bytes stand in front. Of a file that is longer than any run file the first bytes are
+// read: with those it comes to what the whole file comes to (`first-bytes`, run/specs).
+pub fn read_file<R: Read>(from: &mut R, file: &mut [u8; runfile::ENOUGH_BYTES]) -> usize
     ensures { Reads result file.new }
 {
-    io::read_full(fd, file)
+    read_full(from, file)
 }
