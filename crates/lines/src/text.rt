@@ -2,6 +2,7 @@
 //
 // Each function takes the place where it begins and answers the place after what it put. Nothing is asked of the
 // caller: what has no room is left out.
+use std::io::Print;
 
 // Puts one byte.
 pub fn put(out: &mut [u8], at: usize, byte: u8) -> usize {
@@ -25,16 +26,15 @@ pub fn put_name(out: &mut [u8], at: usize, name: &[u8]) -> usize {
 
 // Puts a space and a number in decimal.
 pub fn put_number(out: &mut [u8], at: usize, n: u64) -> usize {
-    let mut digits = [0u8; 20];
-    let count = io::decimal(n, &mut digits);
+    let mut digits = itoa::Buffer::new();
     let next = put(out, at, b' ');
-    put_name(out, next, &digits[..count])
+    put_name(out, next, digits.format(n).as_bytes())
 }
 
 // Writes the first `end` bytes to standard output in one call. Nobody is left to tell when the output is closed, so
 // the answer of the call is not looked at.
-pub fn write_text(out: &[u8], end: usize) {
+pub fn write_text(to: &impl Print, out: &[u8], end: usize) {
     if end <= out.len() {
-        io::write_all(1, &out[..end]);
+        let _ = to.write_all(&out[..end]);
     }
 }
