@@ -35,10 +35,10 @@ unfolding sum_from taken
 sum_below s [] h = h
 sum_below s (x ∷ xs) h = sum_below (taken s x) xs (mod-lt (s * factor + x) (omega arith))
 
-sum-append : (s : ℕ) (xs ys : List ℕ) → sum_from s (xs ++ ys) ≡ sum_from (sum_from s xs) ys
+sum_append : (s : ℕ) (xs ys : List ℕ) → sum_from s (xs ++ ys) ≡ sum_from (sum_from s xs) ys
 unfolding sum_from
-sum-append s [] ys = refl
-sum-append s (x ∷ xs) ys = sum-append (taken s x) xs ys
+sum_append s [] ys = refl
+sum_append s (x ∷ xs) ys = sum_append (taken s x) xs ys
 
 -- eight numbers weighed in three groups, as the code does it
 groups : (a b c d e f g h : ℕ) →
@@ -82,7 +82,7 @@ module _ (xs : List ℕ) (i : ℕ) where
     pub eight_more : (r : ℕ) → i + 8 ≤ length xs → s < modulus → Weighs xs i r → sum_from ((s * 1328542826 + r) % modulus) (drop (i + 8) xs) ≡ all
     eight_more r h b w =
         ap (λ x. sum_from x (drop (i + 8) xs)) (sym (block_taken r h b w))
-        ∙ sym (sum-append s (take 8 (drop i xs)) (drop (i + 8) xs))
+        ∙ sym (sum_append s (take 8 (drop i xs)) (drop (i + 8) xs))
         ∙ ap (sum_from s) (ap (λ x. take 8 (drop i xs) ++ x) (sym (drop-drop 8 i xs)) ∙ take-append-drop 8 (drop i xs))
         ∙ kept
 

@@ -10,6 +10,7 @@
 mod buffers;
 
 use buffers::{fill, fill_words, sum_over, sum_over_words};
+use std::io::{Eprint, Print, Read};
 
 // What the first number of the words buffer is before a run: 3,235,774,464 in both halves.
 const FIRST_WORD: u64 = 3235774464 * 4294967296 + 3235774464;
@@ -40,9 +41,9 @@ fn length_at(head: &[u8; 16], at: usize) -> usize {
 }
 
 // Reads the four numbers of the next record.
-fn next_lengths() -> Next {
+fn next_lengths<R: Read>(from: &mut R) -> Next {
     let mut head = [0u8; 16];
-    let got = io::read_full(0, &mut head);
+    let got = input::read_full(from, &mut head);
     if got == 0 {
         return Next::End;
     }
@@ -86,23 +87,27 @@ fn put_record(
 
 // Reads a file, carries out its record and writes the lines. Every buffer is as long as the record says. False where
 // the stream ends within the file.
-fn sweep_file(
+fn sweep_file<R: Read>(
+    from: &mut R,
+    to: &impl Print,
     out: &mut [u8],
     file: &mut [u8],
     words: &mut [u64],
     log: &mut [u32],
     answers: &mut [u32],
 ) -> bool {
-    if io::read_full(0, file) < file.len() {
+    if input::read_full(from, file) < file.len() {
         return false;
     }
     let end = put_record(out, file, words, log, answers);
-    lines::write_text(out, end);
+    lines::write_text(to, out, end);
     true
 }
 
 // Carries out a record of these lengths. False where the record is damaged.
-fn sweep_record(
+fn sweep_record<R: Read>(
+    from: &mut R,
+    to: &impl Print,
     lengths: Lengths,
     out: &mut [u8],
     file: &mut [u8],
@@ -127,6 +132,8 @@ fn sweep_record(
         return false;
     }
     sweep_file(
+        from,
+        to,
         out,
         &mut file[..n],
         &mut words[..w],
@@ -136,28 +143,30 @@ fn sweep_record(
 }
 
 // Says that the stream is damaged, on standard error: standard output has outcomes and nothing else.
-fn complain() {
-    io::write_all(2, b"sweep: the stream is damaged\n");
+fn complain(to: &impl Eprint) {
+    let _ = eprintln!(to; "sweep: the stream is damaged");
 }
 
 // Carries out the next record, and answers whether to go on.
-fn sweep_next(
+fn sweep_next<R: Read>(
+    from: &mut R,
+    rt: &(impl Print + Eprint),
     out: &mut [u8],
     file: &mut [u8],
     words: &mut [u64],
     log: &mut [u32],
     answers: &mut [u32],
 ) -> bool {
-    match next_lengths() {
+    match next_lengths(from) {
         Next::End => false,
         Next::Damaged => {
-            complain();
+            complain(rt);
             false
         }
         Next::Record(lengths) => {
-            let whole = sweep_record(lengths, out, file, words, log, answers);
+            let whole = sweep_record(from, rt, lengths, out, file, words, log, answers);
             if !whole {
-                complain();
+                complain(rt);
             }
             whole
         }
@@ -165,10 +174,18 @@ fn sweep_next(
 }
 
 // Goes through the stream. One that never ends is left after 2^32 - 1 records, since every Rattle program ends.
-fn sweep(out: &mut [u8], file: &mut [u8], words: &mut [u64], log: &mut [u32], answers: &mut [u32]) {
+fn sweep<R: Read>(
+    from: &mut R,
+    rt: &(impl Print + Eprint),
+    out: &mut [u8],
+    file: &mut [u8],
+    words: &mut [u64],
+    log: &mut [u32],
+    answers: &mut [u32],
+) {
     let mut left = 4294967295u32;
     while left > 0 {
-        if sweep_next(out, file, words, log, answers) {
+        if sweep_next(from, rt, out, file, words, log, answers) {
             left -= 1;
         } else {
             left = 0;
@@ -176,7 +193,8 @@ fn sweep(out: &mut [u8], file: &mut [u8], words: &mut [u64], log: &mut [u32], an
     }
 }
 
-fn main() {
+fn main(rt: HostRuntime) {
+    let mut from = rt.reader();
     // Room for the longest outcome (62,963 bytes, see `swr`) and its line of the sum.
     let mut out = [0u8; 65536];
     // The most that a record may ask for.
@@ -184,5 +202,13 @@ fn main() {
     let mut words = [0u64; 40];
     let mut log = [0u32; 5200];
     let mut answers = [0u32; 5200];
-    sweep(&mut out, &mut file, &mut words, &mut log, &mut answers);
+    sweep(
+        &mut from,
+        &rt,
+        &mut out,
+        &mut file,
+        &mut words,
+        &mut log,
+        &mut answers,
+    );
 }
