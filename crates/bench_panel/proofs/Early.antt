@@ -1,9 +1,5 @@
 -- A key that was carried out came at a position of at most 1,023, since any other is refused by 21: so the next position is in reach.
-use Prim.Native.Nat.{ℕ, ◌≤◌}
-use mathlib.Core.Path.{◌≡◌, refl}
-use mathlib.Core.List.{List}
-use native.Mathlib.Omega.{arith}
-use lib.ListN.{length}
+use Rattle.std.proofs.Common.{ℕ, ◌≤◌, ◌≡◌, refl, List, length, arith}
 use Rattle.machine.specs.declared.Process.{Process}
 use Rattle.panel.specs.declared.Outcome.TheVariants.{Went, Refused}
 use Rattle.panel.specs.declared.Verdict.{Verdict}

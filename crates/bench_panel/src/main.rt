@@ -6,6 +6,7 @@
 #![tactic(auto)]
 
 mod changes;
+mod complaint;
 mod record;
 mod typed;
 
@@ -14,10 +15,14 @@ ghost use Rattle.bench_panel.specs.Promises.{Lends};
 ghost use Rattle.std.specs.Prelude.{◌≡◌};
 
 use changes::{Change, put_changes};
+use complaint::{complain, complain_of, reason_of};
 use lines::{put, put_name, put_number};
 use machine::Process;
 use panel::{Outcome, Stroke};
 use runfile::{Checked, Header};
+use std::fs::File;
+use std::io::{Print, Read};
+use std::rt::Env;
 use typed::Entry;
 
 // The bench between two keys: the records, the words, the position of the next key, and how many rows stand in the log
@@ -62,18 +67,17 @@ fn put_action(out: &mut [u8], at: usize, byte: u8) -> usize {
 
 // Puts the first line of a key: its position, the byte in hex, and what it does.
 fn put_key(out: &mut [u8], position: usize, byte: u8) -> usize {
-    let mut digits = [0u8; 16];
-    let count = io::hex(byte as u64, 2, &mut digits);
+    let digits = b"0123456789abcdef";
     let mut next = put_name(out, 0, b"key");
     next = put_number(out, next, position as u64);
     next = put(out, next, b' ');
-    next = put_name(out, next, &digits[..count]);
+    next = put(out, next, digits[(byte / 16) as usize]);
+    next = put(out, next, digits[(byte % 16) as usize]);
     next = put_action(out, next, byte);
     put(out, next, b'\n')
 }
 
-// The bench's records, by a function of its own: in a proof by hand, as that of `lend_records`, a field that is an array of
-// structs cannot be read.
+// The bench's records.
 fn records_of(bench: Bench) -> [Process; 16]
     ensures { result ≡ bench.records }
 {
@@ -81,7 +85,7 @@ fn records_of(bench: Bench) -> [Process; 16]
     records
 }
 
-// Likewise a struct that holds such a field cannot be built there. This is the bench with these records.
+// What a key came to, with the bench with these records.
 fn with_records(bench: Bench, records: [Process; 16], outcome: Outcome) -> Pressed
     ensures { (result.bench.records ≡ records) × (result.outcome ≡ outcome) }
 {
@@ -168,6 +172,7 @@ fn put_outcome(
 
 // Carries out a key, and writes its lines.
 fn press(
+    to: &impl Print,
     out: &mut [u8],
     file: &[u8],
     bench: Bench,
@@ -185,12 +190,13 @@ fn press(
         after,
     };
     let end = put_outcome(out, next, outcome, change, log, answers);
-    lines::write_text(out, end);
+    lines::write_text(to, out, end);
     after
 }
 
 // Does what a line of standard input asks for.
 fn take_entry(
+    to: &impl Print,
     out: &mut [u8],
     file: &[u8],
     bench: Bench,
@@ -201,21 +207,29 @@ fn take_entry(
     match entry {
         Entry::Nothing => bench,
         Entry::NotAKey => {
-            io::write_all(1, b"not a key\n");
+            let _ = println!(to; "not a key");
             bench
         }
-        Entry::Key(byte) => press(out, file, bench, log, answers, byte),
+        Entry::Key(byte) => press(to, out, file, bench, log, answers, byte),
     }
 }
 
 // Takes line after line. After 2^64 - 1 of them the panel is closed, since every Rattle program ends.
-fn take_lines(file: &[u8], first: Bench, out: &mut [u8], log: &mut [u32], answers: &mut [u32]) {
+fn take_lines<R: Read>(
+    keys: &mut R,
+    to: &impl Print,
+    file: &[u8],
+    first: Bench,
+    out: &mut [u8],
+    log: &mut [u32],
+    answers: &mut [u32],
+) {
     let mut bench = first;
     let mut left = u64::MAX;
     while left > 0 {
-        let typed = typed::read_line();
+        let typed = typed::read_line(keys);
         let entry = typed.entry;
-        bench = take_entry(out, file, bench, log, answers, entry);
+        bench = take_entry(to, out, file, bench, log, answers, entry);
         left -= 1;
         if typed.is_last {
             left = 0;
@@ -234,7 +248,13 @@ fn start_words(file: &[u8], header: Header) -> [u64; 16]
 }
 
 // The panel over a file that is accepted: all processes idle, nothing logged and nothing answered.
-fn start(file: &[u8], header: Header, words: [u64; 16]) {
+fn start<R: Read>(
+    keys: &mut R,
+    to: &impl Print,
+    file: &[u8],
+    header: Header,
+    words: [u64; 16],
+) {
     // Room for the lines of a key, whatever it changes: a first line of at most 22 bytes; seven of at most 176 together for
     // each of sixteen processes; one of 30 for each of sixteen words; a log row of 37 and an answer row of 32. That is 3,387
     // bytes.
@@ -252,39 +272,46 @@ fn start(file: &[u8], header: Header, words: [u64; 16]) {
     };
     let next = lines::put_header(&mut out, 0, header);
     let end = lines::put_words(&mut out, next, &words, runfile::index8(header.words));
-    lines::write_text(&out, end);
-    take_lines(file, bench, &mut out, &mut log, &mut answers);
+    lines::write_text(to, &out, end);
+    take_lines(keys, to, file, bench, &mut out, &mut log, &mut answers);
 }
 
 // Judges the file, as the panel does at each key (R221).
-fn open(file: &[u8]) {
+fn open<R: Read>(keys: &mut R, to: &impl Print, file: &[u8]) {
     match runfile::check_file(file) {
         Checked::Refused(why, place) => {
             let mut out = [0u8; 64];
             let end = lines::put_refusal(&mut out, 0, runfile::refusal_number(why), place);
-            lines::write_text(&out, end);
+            lines::write_text(to, &out, end);
         }
         Checked::Accepted(header) => {
             let words = start_words(file, header);
-            start(file, header, words);
+            start(keys, to, file, header, words);
         }
     }
 }
 
-fn main() {
-    let mut path = io::buffer();
-    let length = os::arg(1, &mut path);
-    if os::errno() != 0 {
-        os::fail(b"panel: the run file's name");
+// Opens the run file of this name, and is the panel over it. A name is text; one that is not is refused.
+fn open_named(rt: &HostRuntime, name: &[u8]) {
+    let Ok(path) = std::str::from_utf8(name) else {
+        complain(&rt.stderr(), name, "the name is not UTF-8");
         return;
+    };
+    match File::open(rt, path) {
+        Err(error) => complain_of(&rt.stderr(), name, error),
+        Ok(mut from) => {
+            let mut file = [0u8; runfile::ENOUGH_BYTES];
+            let n = input::read_file(&mut from, &mut file);
+            drop(from);
+            open(&mut rt.reader(), rt, &file[..n]);
+        }
     }
-    let fd = os::open_read(&path[..length]);
-    if fd < 0 {
-        os::fail(&path[..length]);
-        return;
+}
+
+fn main(rt: HostRuntime) {
+    let mut path = [0u8; 4096];
+    match rt.arg(1, &mut path) {
+        Err(error) => complain(&rt.stderr(), b"panel: the run file's name", reason_of(error)),
+        Ok(length) => open_named(&rt, &path[..length]),
     }
-    let mut file = [0u8; runfile::ENOUGH_BYTES];
-    let n = input::read_file(fd, &mut file);
-    libc::close(fd);
-    open(&file[..n]);
 }

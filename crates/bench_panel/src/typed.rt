@@ -1,6 +1,7 @@
 // What is typed: a line of standard input is a key, or no key, or has nothing in it.
 //
 // A line is never kept. It is followed byte by byte, so it may be of any length.
+use std::io::Read;
 
 // What a line comes to.
 #[derive(Clone, Copy)]
@@ -109,9 +110,9 @@ fn with_byte(line: Line, byte: u8) -> Line {
     }
 }
 
-fn next_byte() -> Next {
+fn next_byte<R: Read>(from: &mut R) -> Next {
     let mut one = [0u8; 1];
-    let got = io::read_full(0, &mut one);
+    let got = input::read_full(from, &mut one);
     if got == 0 {
         return Next::End;
     }
@@ -120,12 +121,12 @@ fn next_byte() -> Next {
 
 // Reads to the end of a line, byte by byte, so that nothing of the next line is waited for. A line of 2^64 - 1 bytes is
 // taken for the last, since every Rattle program ends.
-pub fn read_line() -> Typed {
+pub fn read_line<R: Read>(from: &mut R) -> Typed {
     let mut line = Line::Blank;
     let mut left = u64::MAX;
     while left > 0 {
         left -= 1;
-        let Next::Byte(byte) = next_byte() else {
+        let Next::Byte(byte) = next_byte(from) else {
             return Typed {
                 entry: entry_of(line),
                 is_last: true,
