@@ -248,13 +248,7 @@ fn start_words(file: &[u8], header: Header) -> [u64; 16]
 }
 
 // The panel over a file that is accepted: all processes idle, nothing logged and nothing answered.
-fn start<R: Read>(
-    keys: &mut R,
-    to: &impl Print,
-    file: &[u8],
-    header: Header,
-    words: [u64; 16],
-) {
+fn start<R: Read>(keys: &mut R, to: &impl Print, file: &[u8], header: Header, words: [u64; 16]) {
     // Room for the lines of a key, whatever it changes: a first line of at most 22 bytes; seven of at most 176 together for
     // each of sixteen processes; one of 30 for each of sixteen words; a log row of 37 and an answer row of 32. That is 3,387
     // bytes.
@@ -311,7 +305,11 @@ fn open_named(rt: &HostRuntime, name: &[u8]) {
 fn main(rt: HostRuntime) {
     let mut path = [0u8; 4096];
     match rt.arg(1, &mut path) {
-        Err(error) => complain(&rt.stderr(), b"panel: the run file's name", reason_of(error)),
+        Err(error) => complain(
+            &rt.stderr(),
+            b"panel: the run file's name",
+            reason_of(error),
+        ),
         Ok(length) => open_named(&rt, &path[..length]),
     }
 }

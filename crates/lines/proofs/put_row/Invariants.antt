@@ -3,7 +3,7 @@ use Rattle.std.proofs.Common.{length, ◌-◌, ◌≡◌, ◌≤◌}
 use Rattle.lines.proofs.put_row.Given as goal
 
 abbrev pub invariant-loop-k : goal.invariant-loop-k
-invariant-loop-k l = (l.k ≤ l.end) × (l.end ≤ length l.rows) × (length l.out ≡ length l.initial.out)
+invariant-loop-k l = (l.k ≤ l.end) × (l.end ≤ length l.rows)
 
 abbrev pub decreases-loop-k : goal.decreases-loop-k
 decreases-loop-k l = l.end - l.k

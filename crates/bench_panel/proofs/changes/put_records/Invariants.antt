@@ -1,9 +1,9 @@
--- `put_records` ends: each turn that goes on comes to a later process, one of sixteen, and the text keeps its length.
+-- `put_records` ends: each turn that goes on comes to a later process, one of sixteen.
 use Rattle.std.proofs.Common.{length, ◌-◌, ◌≡◌, ◌≤◌}
 use Rattle.bench_panel.proofs.changes.put_records.Given as goal
 
 abbrev pub invariant-loop-q : goal.invariant-loop-q
-invariant-loop-q l = (l.q ≤ 16) × (length l.out ≡ length l.initial.out)
+invariant-loop-q l = (l.q ≤ 16)
 
 abbrev pub decreases-loop-q : goal.decreases-loop-q
 decreases-loop-q l = 16 - l.q
