@@ -10,7 +10,7 @@ use Rattle.panel.specs.declared.Stroke.{Stroke}
 use Rattle.panel.specs.declared.Table.{Table}
 use Rattle.panel.specs.Press.{lent, verdict_of, pressed_as, pressed}
 use Rattle.panel.specs.Key.{keyed}
-use Rattle.panel.specs.Fits.{fit}
+use Rattle.panel.proofs.Fits.{fit}
 
 not_went : {why : Why} {at m n : ℕ} → Refused why at ≡ Went m n → ⊥
 not_went e = let z : ◌≡◌ {A = ℕ} 0 1 = cc in omega arith

@@ -1,5 +1,5 @@
 -- `put_changed_words` ends: each turn that goes on comes to a later word, one of sixteen.
-use Rattle.std.proofs.Common.{length, ◌-◌, ◌≡◌, ◌≤◌}
+use Rattle.std.proofs.Common.{◌-◌, ◌≤◌}
 use Rattle.bench_panel.proofs.changes.put_changed_words.Given as goal
 
 abbrev pub invariant-loop-k : goal.invariant-loop-k

@@ -1,5 +1,5 @@
 -- `put_records` ends: each turn that goes on comes to a later process, one of sixteen.
-use Rattle.std.proofs.Common.{length, ◌-◌, ◌≡◌, ◌≤◌}
+use Rattle.std.proofs.Common.{◌-◌, ◌≤◌}
 use Rattle.bench_panel.proofs.changes.put_records.Given as goal
 
 abbrev pub invariant-loop-q : goal.invariant-loop-q
