@@ -1,5 +1,5 @@
 -- `put_row` ends: each turn that goes on comes to a later number of the row, and every number that it reads lies in the rows.
-use Rattle.std.proofs.Common.{length, ◌-◌, ◌≡◌, ◌≤◌}
+use Rattle.std.proofs.Common.{length, ◌-◌, ◌≤◌}
 use Rattle.lines.proofs.put_row.Given as goal
 
 abbrev pub invariant-loop-k : goal.invariant-loop-k

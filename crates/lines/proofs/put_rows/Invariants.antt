@@ -1,5 +1,5 @@
 -- `put_rows` ends: each turn that goes on comes to a later row, and no row begins out of reach of a `usize`.
-use Rattle.std.proofs.Common.{length, ◌-◌, ◌≡◌, ◌≤◌}
+use Rattle.std.proofs.Common.{◌-◌, ◌≤◌}
 use Rattle.lines.proofs.put_rows.Given as goal
 
 abbrev pub invariant-loop-k : goal.invariant-loop-k

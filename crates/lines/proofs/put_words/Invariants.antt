@@ -1,5 +1,5 @@
 -- `put_words` ends: each turn that goes on comes to a later word, and every word that it reads lies in the buffer.
-use Rattle.std.proofs.Common.{length, ◌-◌, ◌≡◌, ◌≤◌}
+use Rattle.std.proofs.Common.{◌-◌, ◌≤◌}
 use Rattle.lines.proofs.put_words.Given as goal
 
 abbrev pub invariant-loop-k : goal.invariant-loop-k

@@ -1,5 +1,5 @@
 -- `put_name` ends: each turn that goes on comes to a later byte of the name, and stays within it.
-use Rattle.std.proofs.Common.{length, ◌-◌, ◌≡◌, ◌≤◌}
+use Rattle.std.proofs.Common.{length, ◌-◌, ◌≤◌}
 use Rattle.lines.proofs.text.put_name.Given as goal
 
 abbrev pub invariant-loop-k : goal.invariant-loop-k
