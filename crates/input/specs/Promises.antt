@@ -1,4 +1,5 @@
--- What is promised of reading: the room is for as many bytes as decide (R9), and what is read stands in front. Which bytes are read no contract can say.
+-- What is promised of reading: the room is for as many bytes as decide (R9), and what is read stands in front. Which bytes they are is promised beside this,
+-- by std's `Consumes`, of a reader whose bytes are known; of a file or of standard input no contract can say.
 use Rattle.std.specs.Prelude.{ℕ, ◌≤◌, ◌≡◌, List, length, take}
 use Rattle.runfile.specs.Enough.{enough}
 
