@@ -148,8 +148,8 @@ loop-i-preserved-in-9 c =
 pub loop-i-preserved-in_default-number : goal.loop-i-preserved-in_default-number
 loop-i-preserved-in_default-number c =
     let b = at_byte c.requires c.loop-i.invariant c.loop-i-test.true c.index8-at.ensures.0 c.counts_of-counts.ensures c.firsts_of-firsts.ensures in
-    let n = c.in_default-number.in_default-number-own.rest in
-    (c.loop-i.invariant.0, replied b c.in-0.is c.in-Busy.is c.open_row-row.ensures c.index16-k.ensures.0 c.stage_number-number.ensures n.0.0.0.0.0.0.0.0.1 n.0.0.0.0.0.0.0.1 n.0.0.0.0.0.0.1 n.0.0.0.0.0.1 n.0.0.0.0.1 n.0.0.0.1 n.0.0.1 n.0.1 n.1 c.reply_of-said.ensures c.entry_of-reply.ensures c.add_answer.auto.answers c.add_answer.ensures)
+    let n = c.in_default-number in
+    (c.loop-i.invariant.0, replied b c.in-0.is c.in-Busy.is c.open_row-row.ensures c.index16-k.ensures.0 c.stage_number-number.ensures (λ e. omega arith) (λ e. omega arith) (λ e. omega arith) (λ e. omega arith) (λ e. omega arith) (λ e. omega arith) (λ e. omega arith) (λ e. omega arith) (λ e. omega arith) c.reply_of-said.ensures c.entry_of-reply.ensures c.add_answer.auto.answers c.add_answer.ensures)
 
 pub loop-i-preserved-in-1 : goal.loop-i-preserved-in-1
 loop-i-preserved-in-1 c =
@@ -174,8 +174,8 @@ loop-i-preserved-in_default-status c =
 pub loop-i-preserved : goal.loop-i-preserved
 loop-i-preserved c =
     let b = at_byte c.requires c.loop-i.invariant c.loop-i-test.true c.index8-at.ensures.0 c.counts_of-counts.ensures c.firsts_of-firsts.ensures in
-    let n = c.in_default.in_default-own.rest in
-    (c.loop-i.invariant.0, fall b n.0.0.1 n.0.1 n.1 c.crash_first-down.ensures)
+    let n = c.in_default in
+    (c.loop-i.invariant.0, fall b (λ e. omega arith) (λ e. omega arith) (λ e. omega arith) c.crash_first-down.ensures)
 
 pub returns : goal.returns
 returns c =

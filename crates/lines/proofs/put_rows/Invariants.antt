@@ -1,4 +1,4 @@
--- `put_rows` ends: each turn that goes on comes to a later row, and no row begins out of reach of a `usize`.
+-- `put_rows` ends: each turn that goes on comes to a later row, and to none past the last that is asked for.
 use Rattle.std.proofs.Common.{◌-◌, ◌≤◌}
 use Rattle.lines.proofs.put_rows.Given as goal
 

@@ -1,4 +1,4 @@
--- `put_words` ends: each turn that goes on comes to a later word, and every word that it reads lies in the buffer.
+-- `put_words` ends: each turn that goes on comes to a later word, and to none past the last that is asked for.
 use Rattle.std.proofs.Common.{◌-◌, ◌≤◌}
 use Rattle.lines.proofs.put_words.Given as goal
 

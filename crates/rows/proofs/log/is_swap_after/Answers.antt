@@ -49,7 +49,7 @@ pub returns-then-not-is_swapped : goal.returns-then-not-is_swapped
 returns-then-not-is_swapped c = lost _ _ _ _ _ _ _ (sym c.is_swapped.ensures ∙ c.if-not-is_swapped.true)
 
 pub overflow_cast-row : goal.overflow_cast-row
-overflow_cast-row c = omega (arith, c.shared_slice_known-5-1.given (c.args.i * 5 + 2))
+overflow_cast-row c = omega (arith, c.type_inv.log (c.args.i * 5 + 2))
 
 pub returns-then-row-operations : goal.returns-then-row-operations
 returns-then-row-operations c = past _ _ _ _ _ _ _ (sym c.is_swapped.ensures ∙ c.if-not-is_swapped.false) (omega (arith, c.if-log-at.false)) c.if-row-operations.true
