@@ -3,7 +3,7 @@
 // Each kind of line is put where what it shows is another than before. What is no number, a stage or an answer, has a
 // number here by which two of them are told apart.
 use lines::{put, put_name, put_number};
-use machine::{Answer, Kept, Maybe, Opened, Process, Stage, Status};
+use machine::{Answer, Kept, Process, Stage, Status};
 
 // The letter and the digit of a stage.
 #[derive(Clone, Copy)]
@@ -26,15 +26,15 @@ fn stage_number(status: Status) -> u32 {
     }
 }
 
-fn opened_number(opened: Opened) -> u32 {
+fn opened_number(opened: Option<u16>) -> u32 {
     match opened {
-        Opened::Closed => 0,
-        Opened::Open(k) => k as u32 + 1,
+        None => 0,
+        Some(k) => k as u32 + 1,
     }
 }
 
-fn answer_number(answer: Maybe) -> u64 {
-    let Maybe::Is(said) = answer else {
+fn answer_number(answer: Option<Answer>) -> u64 {
+    let Some(said) = answer else {
         return 0;
     };
     match said {
@@ -103,14 +103,20 @@ fn put_stage(out: &mut [u8], at: usize, q: usize, before: Status, after: Status)
     }
 }
 
-fn put_opened(out: &mut [u8], at: usize, q: usize, before: Opened, after: Opened) -> usize {
+fn put_opened(
+    out: &mut [u8],
+    at: usize,
+    q: usize,
+    before: Option<u16>,
+    after: Option<u16>,
+) -> usize {
     if opened_number(before) == opened_number(after) {
         return at;
     }
     let next = put_front(out, at, q, b"row");
     match after {
-        Opened::Closed => put_name(out, next, b" none\n"),
-        Opened::Open(k) => {
+        None => put_name(out, next, b" none\n"),
+        Some(k) => {
             let end = put_number(out, next, k as u64);
             put(out, end, b'\n')
         }
@@ -133,14 +139,20 @@ fn put_answer(out: &mut [u8], at: usize, answer: Answer) -> usize {
     }
 }
 
-fn put_stored(out: &mut [u8], at: usize, q: usize, before: Maybe, after: Maybe) -> usize {
+fn put_stored(
+    out: &mut [u8],
+    at: usize,
+    q: usize,
+    before: Option<Answer>,
+    after: Option<Answer>,
+) -> usize {
     if answer_number(before) == answer_number(after) {
         return at;
     }
     let next = put_front(out, at, q, b"stored");
     match after {
-        Maybe::None => put_name(out, next, b" none\n"),
-        Maybe::Is(answer) => put_answer(out, next, answer),
+        None => put_name(out, next, b" none\n"),
+        Some(answer) => put_answer(out, next, answer),
     }
 }
 

@@ -1,14 +1,11 @@
 -- Each of the five wrong machines of `specs/Wrong.antt` breaks demand 3: its short run is computed, and the statement says otherwise of it.
-use Rattle.std.specs.Prelude.{ℕ, ◌+◌, ◌<◌, ◌≡◌, refl, List, [], ◌∷◌}
+use Rattle.std.specs.Prelude.{ℕ, ◌+◌, ◌<◌, ◌≡◌, refl, List, [], ◌∷◌, Option, Some, None}
 use Rattle.std.proofs.Common.{sym, ◌∙◌, ap, subst, arith}
 use Rattle.runfile.specs.Operations.{row_numbered, first, count, names}
 use Rattle.rows.specs.declared.Entry.{Entry}
 use Rattle.word.specs.Word.{value_in, bit_in, swapped_in, bit_of, turn_of, flips_in}
 use Rattle.rows.specs.Entries.{is_swapped}
 use Rattle.rows.specs.Log.{one_past, place, insert, is_swap, first_swap}
-use Rattle.machine.specs.declared.Maybe.{Maybe}
-use Rattle.machine.specs.declared.Maybe.TheVariants.{None, Is}
-use Rattle.machine.specs.declared.Opened.TheVariants.{Closed}
 use Rattle.machine.specs.Steps.{spoken, tried_in, storing_in, decide_in, step_turn_in}
 use Rattle.machine.specs.Machine.{applied, apply, proc_at, turn_in, act_in, step_in, after_in, begin}
 use Rattle.replay.specs.Plain.{answer_of, leaves}
@@ -16,13 +13,14 @@ use Rattle.demand3.specs.Statement.{of, Once, Logged, owner_of, through, Ended, 
 use Rattle.demand3.specs.Rule.{turn_by, act_by, step_by}
 use Rattle.demand3.specs.Wrong.{swap, recovering, by_value, capture_rows, capture_schedule, capturing, captured, told-alone, at_its_a4, back_rows, back_schedule, placing, announcing, opens_early, early_rows, early_schedule, opening, early, kept_position, at_its_try, read_rows, read_schedule, reading, read, rereading, as_it_stands, advance, mark_rows, mark_schedule, rereads, marked}
 use Rattle.machine.specs.Laws.{closed_open}
+use Rattle.machine.specs.declared.Answer.{Answer}
 
 -- 1. Recovery that goes by whether the value is new: it has ended worker 0's row and told it true, and has only worker 1's swap in its log
 row-begun : first capture_rows 0 + (proc_at 0 captured).begun ≡ 1
 unfolding captured capture_rows capture_schedule swap by_value recovering turn_by act_by step_by through of row_numbered first count value_in bit_in swapped_in bit_of turn_of flips_in is_swapped one_past place insert spoken tried_in storing_in decide_in step_turn_in applied apply proc_at turn_in act_in step_in after_in begin
 row-begun = refl
 
-row_shut : (proc_at 0 captured).opened ≡ Closed
+row_shut : (proc_at 0 captured).opened ≡ None
 unfolding captured capture_rows capture_schedule swap by_value recovering turn_by act_by step_by through of row_numbered first count value_in bit_in swapped_in bit_of turn_of flips_in is_swapped one_past place insert spoken tried_in storing_in decide_in step_turn_in applied apply proc_at turn_in act_in step_in after_in begin
 row_shut = refl
 
@@ -58,7 +56,7 @@ early-begun : first early_rows 0 + (proc_at 0 early).begun ≡ 2
 unfolding early early_rows early_schedule swap opens_early announcing turn_by act_by step_by through of row_numbered first count value_in bit_in swapped_in bit_of turn_of flips_in is_swapped one_past place insert spoken tried_in storing_in decide_in step_turn_in applied apply proc_at turn_in act_in step_in after_in begin
 early-begun = refl
 
-early_shut : (proc_at 0 early).opened ≡ Closed
+early_shut : (proc_at 0 early).opened ≡ None
 unfolding early early_rows early_schedule swap opens_early announcing turn_by act_by step_by through of row_numbered first count value_in bit_in swapped_in bit_of turn_of flips_in is_swapped one_past place insert spoken tried_in storing_in decide_in step_turn_in applied apply proc_at turn_in act_in step_in after_in begin
 early_shut = refl
 
@@ -82,7 +80,7 @@ unfolding read read_rows read_schedule at_its_try kept_position turn_by act_by s
 logged_first = refl
 
 -- no row was open when the first byte came
-closed_then : (proc_at 0 (state_after reading read_schedule 0)).opened ≡ Closed
+closed_then : (proc_at 0 (state_after reading read_schedule 0)).opened ≡ None
 unfolding read_rows read_schedule through proc_at begin
 closed_then = refl
 
@@ -103,7 +101,7 @@ mark_begun : first mark_rows 0 + (proc_at 0 marked).begun ≡ 1
 unfolding marked mark_rows mark_schedule advance as_it_stands rereading turn_by act_by step_by through of row_numbered first count value_in bit_in swapped_in bit_of turn_of flips_in is_swapped one_past place insert spoken tried_in storing_in decide_in step_turn_in applied apply proc_at turn_in act_in step_in after_in begin
 mark_begun = refl
 
-mark_shut : (proc_at 0 marked).opened ≡ Closed
+mark_shut : (proc_at 0 marked).opened ≡ None
 unfolding marked mark_rows mark_schedule advance as_it_stands rereading turn_by act_by step_by through of row_numbered first count value_in bit_in swapped_in bit_of turn_of flips_in is_swapped one_past place insert spoken tried_in storing_in decide_in step_turn_in applied apply proc_at turn_in act_in step_in after_in begin
 mark_shut = refl
 
@@ -112,9 +110,9 @@ unfolding mark_rows advance row_numbered
 mark_ended = record { begun = subst (λ n. 0 < n) (sym mark_begun) (omega arith); shut = λ o. closed_open (sym mark_shut ∙ o) }
 
 -- whatever was told, by a machine that has something else of it in its log
-told_other : (p k : ℕ) (e f : Entry) (log answers : List Entry) → of k answers ≡ e ∷ [] → of k log ≡ f ∷ [] → (e.value ≡ f.value → ⊥) → (m : Maybe) → Once p k m answers → Logged p k m log → ⊥
+told_other : (p k : ℕ) (e f : Entry) (log answers : List Entry) → of k answers ≡ e ∷ [] → of k log ≡ f ∷ [] → (e.value ≡ f.value → ⊥) → (m : Option Answer) → Once p k m answers → Logged p k m log → ⊥
 told_other p k e f log answers told stood ne None a l = let same : f ∷ [] ≡ [] = sym stood ∙ l in let z : ◌≡◌ {A = ℕ} 0 1 = cc in omega arith
-told_other p k e f log answers told stood ne (Is x) a l =
+told_other p k e f log answers told stood ne (Some x) a l =
     let there : e ∷ [] ≡ a.entry ∷ [] = sym told ∙ a.once in
     let here : f ∷ [] ≡ l.entry ∷ [] = sym stood ∙ l.once in
     let left : e.value ≡ a.entry.value = cc in

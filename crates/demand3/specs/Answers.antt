@@ -1,5 +1,5 @@
 -- What a row answers on plain words is what the machine says for it, also where it goes by what A2 kept: by the kinds.
-use Rattle.std.specs.Prelude.{ℕ, Bool, eqb}
+use Rattle.std.specs.Prelude.{ℕ, Bool, eqb, Some, None}
 use Rattle.std.proofs.Math.Path.{◌≡◌, refl, ap}
 use Rattle.std.proofs.Common.{sym, ◌∙◌, true≢false}
 use Rattle.std.proofs.Math.Bool.{true, false, cond}
@@ -12,7 +12,6 @@ use Rattle.runfile.specs.Kinds.{kind_of}
 use Rattle.rows.specs.Entries.{Said, is_swapped}
 use Rattle.machine.specs.declared.Answer.TheVariants.{False, Value}
 use Rattle.machine.specs.declared.Kept.{Kept}
-use Rattle.machine.specs.declared.Maybe.TheVariants.{None, Is}
 use Rattle.machine.specs.Steps.{spoken, kept_by, swap_says}
 use Rattle.machine.specs.KindLaws.{says-swapped}
 use Rattle.replay.specs.Plain.{answer_by, answer_of}
@@ -20,29 +19,29 @@ use Rattle.replay.specs.Replay.{GoesOn, answer_swapped}
 
 module _ (row : Row) (v : ℕ) where
   -- where it swaps, what the swap says
-  pub answer_swap : GoesOn (kind_of row) row.old v → answer_of row v ≡ spoken (Is (swap_says (kind_of row) v))
+  pub answer_swap : GoesOn (kind_of row) row.old v → answer_of row v ≡ spoken (Some (swap_says (kind_of row) v))
   unfolding answer_of spoken
   answer_swap = go (kind_of row)
     where
-      go : (kind : Kind) → GoesOn kind row.old v → answer_by kind row.old v ≡ spoken (Is (swap_says kind v))
+      go : (kind : Kind) → GoesOn kind row.old v → answer_by kind row.old v ≡ spoken (Some (swap_says kind v))
       go Read h = absurd h
       go Compare h = rw (eq-eqb v row.old h)
       go Advance h = refl
 
-  pub answer_other : kind_of row ≡ Compare → (v ≡ row.old → ⊥) → answer_of row v ≡ spoken (Is False)
+  pub answer_other : kind_of row ≡ Compare → (v ≡ row.old → ⊥) → answer_of row v ≡ spoken (Some False)
   unfolding answer_of spoken
   answer_other h e = rw (h, ne_eqb v row.old e)
 
-  pub answer_read : kind_of row ≡ Read → answer_of row v ≡ spoken (Is (Value v))
+  pub answer_read : kind_of row ≡ Read → answer_of row v ≡ spoken (Some (Value v))
   unfolding answer_of spoken
   answer_read h = rw h
 
   -- where it tells of a successful swap, it is what the swap says
-  pub answer_says : is_swapped (answer_of row v) ≡ true → answer_of row v ≡ spoken (Is (swap_says (kind_of row) v))
+  pub answer_says : is_swapped (answer_of row v) ≡ true → answer_of row v ≡ spoken (Some (swap_says (kind_of row) v))
   answer_says h = answer_swap (answer_swapped row v h)
 
   -- an answer false is given at a value that is not old
-  pub answer_false : spoken (Is False) ≡ answer_of row v → eqb v row.old ≡ false
+  pub answer_false : spoken (Some False) ≡ answer_of row v → eqb v row.old ≡ false
   unfolding answer_of spoken
   answer_false = go (kind_of row)
     where
@@ -76,6 +75,6 @@ kept_says Compare before bit v = refl
 kept_says Advance before bit v = refl
 
 -- no swap says false
-pub says_not_false : (kind : Kind) (v : ℕ) → Is False ≡ Is (swap_says kind v) → ⊥
+pub says_not_false : (kind : Kind) (v : ℕ) → Some False ≡ Some (swap_says kind v) → ⊥
 unfolding is_swapped spoken
 says_not_false kind v e = true≢false (sym (says-swapped kind v) ∙ ap (λ m. is_swapped (spoken m)) (sym e))

@@ -1,7 +1,7 @@
 -- Detectability, said plainly, of whatever machine meets demand 3 (R248); and the capture, for every schedule (R255): of workers whose rows all move a
 -- word from the same old to the same new, at most one is told true, and it is one that made the move itself. For by the replay the first true leaves
 -- new, and new is not old. An advance has no old to move from, and many may be told of their swaps; but each of its own.
-use Rattle.std.specs.Prelude.{ℕ, ◌+◌, ◌≤◌, ◌<◌, ◌≡◌, Bool, true, false, cond, eqb, length, get_or, set}
+use Rattle.std.specs.Prelude.{ℕ, ◌+◌, ◌≤◌, ◌<◌, ◌≡◌, Bool, true, false, cond, eqb, length, get_or, set, Some, None}
 use Rattle.std.proofs.Math.Path.{refl, ap}
 use Rattle.std.proofs.Common.{sym, ◌∙◌, subst, get_or-set_same, eqb-true}
 use mathlib.Core.List.{List, [], ◌∷◌, map, append-nil}
@@ -16,7 +16,6 @@ use Rattle.word.specs.Word.{width}
 use Rattle.rows.specs.declared.Entry.{Entry}
 use Rattle.rows.specs.Entries.{said, is_swapped}
 use Rattle.machine.specs.declared.Answer.TheVariants.{False, True, Value, Was}
-use Rattle.machine.specs.declared.Maybe.TheVariants.{None, Is}
 use Rattle.machine.specs.Steps.{spoken, swap_says}
 use Rattle.machine.specs.KindLaws.{NoAdvance, says_true, new_put}
 use Rattle.replay.specs.Plain.{answer_of, leaves, Replayed}
@@ -26,21 +25,21 @@ use Rattle.demand3.specs.Statement.{Firmware, of, Once, owner_of, counts, swap_c
 use Rattle.demand3.specs.Swaps.{swaps_in, swaps_of, logged_count}
 
 -- told true, or the value before, it swapped once; told anything else never
-pub told-counts : (swaps_told (Is True) ≡ 1) × ((v : ℕ) → swaps_told (Is (Was v)) ≡ 1) × (swaps_told None ≡ 0) × (swaps_told (Is False) ≡ 0) × ((v : ℕ) → swaps_told (Is (Value v)) ≡ 0)
+pub told-counts : (swaps_told (Some True) ≡ 1) × ((v : ℕ) → swaps_told (Some (Was v)) ≡ 1) × (swaps_told None ≡ 0) × (swaps_told (Some False) ≡ 0) × ((v : ℕ) → swaps_told (Some (Value v)) ≡ 0)
 unfolding swaps_told is_swapped spoken
 told-counts = (refl, λ v. refl, refl, refl, λ v. refl)
 
 -- an open row that has swapped stands in the log: an advance with the value before, any other with true
 module _ (m : Firmware) (rows : List Row) (schedule : List ℕ) (log answers : List Entry) (k : ℕ) (u : Untold m rows schedule k log answers) (e : swaps m rows schedule k ≡ 1) where
-  pub open_true : NoAdvance (kind_of (row_numbered rows k)) → Once (owner_of rows k) k (Is True) log
+  pub open_true : NoAdvance (kind_of (row_numbered rows k)) → Once (owner_of rows k) k (Some True) log
   open_true n =
       let stands = u.has_swapped_lem e in
-      subst (λ a. Once (owner_of rows k) k (Is a) log) (says_true (kind_of (row_numbered rows k)) stands.0 n) stands.1
+      subst (λ a. Once (owner_of rows k) k (Some a) log) (says_true (kind_of (row_numbered rows k)) stands.0 n) stands.1
 
-  pub open_was : kind_of (row_numbered rows k) ≡ Advance → (v : ℕ) × Once (owner_of rows k) k (Is (Was v)) log
+  pub open_was : kind_of (row_numbered rows k) ≡ Advance → (v : ℕ) × Once (owner_of rows k) k (Some (Was v)) log
   open_was q =
       let stands = u.has_swapped_lem e in
-      (stands.0, subst (λ kind. Once (owner_of rows k) k (Is (swap_says kind stands.0)) log) q stands.1)
+      (stands.0, subst (λ kind. Once (owner_of rows k) k (Some (swap_says kind stands.0)) log) q stands.1)
 
 module _ (m : Firmware) (rows : List Row) (schedule : List ℕ) (log answers : List Entry) (k : ℕ) (t : Told m rows schedule k log answers) where
   -- told of a successful swap: it swapped exactly once, and will not again
@@ -52,10 +51,10 @@ module _ (m : Firmware) (rows : List Row) (schedule : List ℕ) (log answers : L
   once_so_far h = ap (λ bytes. swap_count m rows k 0 bytes m.start) (sym (append-nil schedule)) ∙ h []
 
   -- told true, or the value before: so it is
-  pub told_true : t.answer ≡ Is True → swaps m rows schedule k ≡ 1
+  pub told_true : t.answer ≡ Some True → swaps m rows schedule k ≡ 1
   told_true e = once_so_far (λ more. t.swapped more ∙ ap swaps_told e ∙ told-counts.0)
 
-  pub told_was : (v : ℕ) → t.answer ≡ Is (Was v) → swaps m rows schedule k ≡ 1
+  pub told_was : (v : ℕ) → t.answer ≡ Some (Was v) → swaps m rows schedule k ≡ 1
   told_was v e = once_so_far (λ more. t.swapped more ∙ ap swaps_told e ∙ told-counts.1 v)
 
   -- told fail: it never swapped, and never will
@@ -142,7 +141,7 @@ module _ (rows : List Row) (w old new : ℕ) (differ : new ≡ old → ⊥) (mov
 
   -- the capture (R255): two operations are not both told true
   pub one_mover : (f : Firmware) (schedule : List ℕ) (log answers : List Entry) (values : List ℕ) → Demand3 f rows schedule log answers values → w < length (f.words f.start)
-      → (k j : ℕ) → (k ≡ j → ⊥) → (t : Told f rows schedule k log answers) (u : Told f rows schedule j log answers) → t.answer ≡ Is True → u.answer ≡ Is True → ⊥
+      → (k j : ℕ) → (k ≡ j → ⊥) → (t : Told f rows schedule k log answers) (u : Told f rows schedule j log answers) → t.answer ≡ Some True → u.answer ≡ Some True → ⊥
   one_mover f schedule log answers values d l k j n t u et eu =
       let one : swaps_in log ≤ 1 = at_most_one (map f.value (f.words f.start)) log values d.replayed d.log_rows (subst (λ n. w < n) (sym (length-map (f.words f.start) f.value)) l) in
       let a : swaps_of k log ≡ 1 = logged_count (row_numbered rows k).process k t.answer log t.logged ∙ ap swaps_told et ∙ told-counts.0 in

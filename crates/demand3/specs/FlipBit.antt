@@ -1,14 +1,13 @@
 -- The bench machine, which turns flip bits (R114), as demand 3 sees it; and demand 3 of it, with what is said besides of its stages.
-use Rattle.std.specs.Prelude.{ℕ, suc, ◌+◌, ◌≤◌, ◌<◌, ◌≡◌, refl, Bool, true, false, not, ◌&&◌, List, [], ◌∷◌, ◌++◌, eqb, length}
+use Rattle.std.specs.Prelude.{ℕ, suc, ◌+◌, ◌≤◌, ◌<◌, ◌≡◌, refl, Bool, true, false, not, ◌&&◌, List, [], ◌∷◌, ◌++◌, eqb, length, Option, Some, None}
 use Rattle.runfile.specs.declared.Row.{Row}
 use Rattle.runfile.specs.Operations.{row_numbered}
 use Rattle.word.specs.Word.{value}
 use Rattle.rows.specs.declared.Entry.{Entry}
 use Rattle.rows.specs.Entries.{said, is_swapped}
 use Rattle.rows.specs.Log.{is_swap, first_swap}
+use Rattle.machine.specs.declared.Answer.{Answer}
 use Rattle.machine.specs.declared.Answer.TheVariants.{False}
-use Rattle.machine.specs.declared.Maybe.{Maybe}
-use Rattle.machine.specs.declared.Maybe.TheVariants.{None, Is}
 use Rattle.machine.specs.declared.Stage.TheVariants.{A2, A4, A5}
 use Rattle.machine.specs.declared.Status.{Status}
 use Rattle.machine.specs.declared.Status.TheVariants.{Down, Idle, N2, N3, Busy}
@@ -61,8 +60,8 @@ module _ (rows : List Row) (P : ℕ) (words schedule : List ℕ) where
   -- In time: e, the log row of row k, tells of no swap. It has the position of its A1, which went to A5 with the answer that e tells; or it is that
   -- of a lost swap, whose A1 found old and went to A2, and has the position of the swap that beat it: the front-most on its word after its A1
   pub data ReadThen (k : ℕ) (e : Entry) (log : List Entry) : Type 0 where
-    at_read : (seen : ℕ) (answer : Maybe) → said e ≡ spoken answer → Then k e.position (Busy A5 seen e.position 0 answer) → ReadThen k e log
-    at_loss : (seen read_at : ℕ) (by : Entry) → said e ≡ spoken (Is False) → value seen ≡ (row_numbered rows k).old → Then k read_at (Busy A2 seen read_at 0 None)
+    at_read : (seen : ℕ) (answer : Option Answer) → said e ≡ spoken answer → Then k e.position (Busy A5 seen e.position 0 answer) → ReadThen k e log
+    at_loss : (seen read_at : ℕ) (by : Entry) → said e ≡ spoken (Some False) → value seen ≡ (row_numbered rows k).old → Then k read_at (Busy A2 seen read_at 0 None)
         → Found (is_swap rows (row_numbered rows k).word read_at) log by → e.position ≡ by.position → ReadThen k e log
 
 -- Lock-freedom (R258). An advance whose swap is lost goes back to A1 (R118), and no limit is claimed for its steps; but each time another process got on.
@@ -109,13 +108,13 @@ pub record OfFlipBit (rows : List Row) (P : ℕ) (words schedule : List ℕ) (lo
   pub demand : Demand3 (flip_bit rows P words) rows schedule log answers values
   -- 5. a lost swap, which had read old, finds the swap that beat it in the log as it stands when it stores its answer (R254)
   pub beaten : (n k seen read_at tried_at : ℕ) → k < length rows → StillOpen (flip_bit rows P words) rows k (state_after (flip_bit rows P words) schedule n)
-      → (proc_at (owner_of rows k) (state_after (flip_bit rows P words) schedule n)).status ≡ Busy A5 seen read_at tried_at (Is False) → value seen ≡ (row_numbered rows k).old
+      → (proc_at (owner_of rows k) (state_after (flip_bit rows P words) schedule n)).status ≡ Busy A5 seen read_at tried_at (Some False) → value seen ≡ (row_numbered rows k).old
       → Beaten rows (row_numbered rows k).word read_at (state_after (flip_bit rows P words) schedule n).log
   -- positions of what is no swap: that of its A1, or that of the swap that beat it
   pub read_times : (k : ℕ) → k < length rows → (e : Entry) → of k log ≡ e ∷ [] → is_swapped (said e) ≡ false → ReadThen rows P words schedule k e log
   -- lock-freedom (R258): whenever row k stands at A4, having read its word at position read_at, and the byte at position n leads back to A1, its A1 was at
   -- read_at and it was overtaken between the two
-  pub overtaken : (n k seen read_at tried_at : ℕ) (answer : Maybe) → k < length rows → StillOpen (flip_bit rows P words) rows k (state_after (flip_bit rows P words) schedule n)
+  pub overtaken : (n k seen read_at tried_at : ℕ) (answer : Option Answer) → k < length rows → StillOpen (flip_bit rows P words) rows k (state_after (flip_bit rows P words) schedule n)
       → (proc_at (owner_of rows k) (state_after (flip_bit rows P words) schedule n)).status ≡ Busy A4 seen read_at tried_at answer
       → is_a1 (proc_at (owner_of rows k) (state_after (flip_bit rows P words) schedule (suc n))).status ≡ true
       → Then rows P words schedule k read_at (Busy A2 seen read_at 0 None) × Overtaken rows (owner_of rows k) (row_numbered rows k).word read_at n log

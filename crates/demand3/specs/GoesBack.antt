@@ -2,7 +2,7 @@
 -- invariant a successful swap of another process on it stands in the log, later than the reading. It is earlier than the A4, for every entry of the
 -- log is; and it stays there.
 use Prim.Native.Nat.{ℕ, suc, ◌≤◌, ◌<◌}
-use Rattle.std.specs.Prelude.{◌≡◌, false, ◌&&◌, List, ◌∷◌, map, ltb, length, get_or, take}
+use Rattle.std.specs.Prelude.{◌≡◌, false, ◌&&◌, List, ◌∷◌, map, ltb, length, get_or, take, Option, Some, None}
 use Rattle.std.proofs.Math.Path.{refl, subst}
 use Rattle.std.proofs.Common.{sym, ◌∙◌, ap, arith, take_all}
 use Rattle.std.proofs.Math.Bool.{Bool, true, not, true≢false}
@@ -14,10 +14,8 @@ use Rattle.runfile.specs.Actions.{named}
 use Rattle.word.specs.Word.{value}
 use Rattle.rows.specs.declared.Entry.{Entry}
 use Rattle.rows.specs.Log.{is_swap}
+use Rattle.machine.specs.declared.Answer.{Answer}
 use Rattle.machine.specs.declared.Process.{Process}
-use Rattle.machine.specs.declared.Maybe.{Maybe}
-use Rattle.machine.specs.declared.Maybe.TheVariants.{None}
-use Rattle.machine.specs.declared.Opened.TheVariants.{Open}
 use Rattle.machine.specs.declared.Stage.TheVariants.{A2, A4}
 use Rattle.machine.specs.declared.Status.TheVariants.{Busy}
 use Rattle.machine.specs.Records.{waked, row_open}
@@ -39,7 +37,7 @@ use Rattle.demand3.specs.Reads as Reads
 use Rattle.demand3.specs.Reads.{Hist, hist, then}
 
 -- a process at A4 of row k comes to A1 only if the word is no longer as it was read
-from-A4 : (rows : List Row) (p t k seen read_at tried_at : ℕ) (answer : Maybe) (words : List ℕ) (log : List Entry) (r : Process) → r.opened ≡ Open k
+from-A4 : (rows : List Row) (p t k seen read_at tried_at : ℕ) (answer : Option Answer) (words : List ℕ) (log : List Entry) (r : Process) → r.opened ≡ Some k
     → is_a1 (turn rows p t words log r (Busy A4 seen read_at tried_at answer)).process.status ≡ true → word_of rows k words ≡ seen → ⊥
 unfolding turn_in step_turn_in decide_in tried_in
 from-A4 rows p t k seen read_at tried_at answer words log r o h same =
@@ -49,7 +47,7 @@ from-A4 rows p t k seen read_at tried_at answer words log r o h same =
 
 module _ (rows : List Row) (start : List ℕ) (P t : ℕ) (s : State) (v : Inv rows start Always P t s) (p : ℕ) (here : p < P) where
   -- at A4 of row k, and its word is not as it was read: a swap of another has come since
-  pub overtaken_at : (k seen read_at tried_at : ℕ) (answer : Maybe) → (proc_at p s).opened ≡ Open k → (proc_at p s).status ≡ Busy A4 seen read_at tried_at answer → (word_of rows k s.words ≡ seen → ⊥)
+  pub overtaken_at : (k seen read_at tried_at : ℕ) (answer : Option Answer) → (proc_at p s).opened ≡ Some k → (proc_at p s).status ≡ Busy A4 seen read_at tried_at answer → (word_of rows k s.words ≡ seen → ⊥)
       → HasOther rows start p (row_numbered rows k).word read_at s.log
   overtaken_at k seen read_at tried_at answer o e changed = go (subst (λ st. StatusOk rows start Always p t s.words s.log (proc_at p s) st) e (v.local p here).work)
     where
@@ -85,7 +83,7 @@ module _ (rows : List Row) (words : List ℕ) (P : ℕ) (plan : Plan P (length w
   abbrev end : State
   end = after rows 0 schedule (begin P words)
 
-  module _ (n p k seen read_at tried_at : ℕ) (answer : Maybe) (here : p < P) (inside : n < length schedule) (o : (proc_at p (now n)).opened ≡ Open k) (e : (proc_at p (now n)).status ≡ Busy A4 seen read_at tried_at answer) where
+  module _ (n p k seen read_at tried_at : ℕ) (answer : Option Answer) (here : p < P) (inside : n < length schedule) (o : (proc_at p (now n)).opened ≡ Some k) (e : (proc_at p (now n)).status ≡ Busy A4 seen read_at tried_at answer) where
     w : ℕ
     w = (row_numbered rows k).word
 
@@ -145,7 +143,7 @@ module _ (rows : List Row) (words : List ℕ) (P : ℕ) (plan : Plan P (length w
   same : (n : ℕ) → state_after m schedule n ≡ now n
   same n = reached rows words P plan (take n schedule)
 
-  pub overtaken_time : (n k seen read_at tried_at : ℕ) (answer : Maybe) → k < length rows → StillOpen m rows k (state_after m schedule n)
+  pub overtaken_time : (n k seen read_at tried_at : ℕ) (answer : Option Answer) → k < length rows → StillOpen m rows k (state_after m schedule n)
       → (proc_at (owner_of rows k) (state_after m schedule n)).status ≡ Busy A4 seen read_at tried_at answer → is_a1 (proc_at (owner_of rows k) (state_after m schedule (suc n))).status ≡ true
       → Then rows P words schedule k read_at (Busy A2 seen read_at 0 None) × Overtaken rows (owner_of rows k) (row_numbered rows k).word read_at n end.log
   unfolding w
@@ -154,7 +152,7 @@ module _ (rows : List Row) (words : List ℕ) (P : ℕ) (plan : Plan P (length w
       p : ℕ
       p = owner_of rows k
 
-      o : (proc_at p (now n)).opened ≡ Open k
+      o : (proc_at p (now n)).opened ≡ Some k
       o = ap (λ s. (proc_at p s).opened) (sym (same n)) ∙ still
 
       e : (proc_at p (now n)).status ≡ Busy A4 seen read_at tried_at answer

@@ -1,5 +1,5 @@
 -- The invariant of a state at time t.
-use Rattle.std.specs.Prelude.{ℕ, suc, ◌+◌, ◌≤◌, ◌<◌, ◌≡◌, Bool, true, false, not, ◌&&◌, List, [], ◌∷◌, map, eqb, length, get_or}
+use Rattle.std.specs.Prelude.{ℕ, suc, ◌+◌, ◌≤◌, ◌<◌, ◌≡◌, Bool, true, false, not, ◌&&◌, List, [], ◌∷◌, map, eqb, length, get_or, Option, Some, None}
 use Rattle.rows.specs.declared.Entry.{Entry}
 use Rattle.machine.specs.Machine.{Effect, quiet, swaps, logs, replies, State, proc_at}
 use Rattle.runfile.specs.declared.Row.{Row}
@@ -9,9 +9,6 @@ use Rattle.machine.specs.declared.Stage.{Stage}
 use Rattle.machine.specs.declared.Stage.TheVariants.{A1, A2, A3, A4, A5, A6, V1, V2, V3, V4, V5, V6}
 use Rattle.machine.specs.declared.Answer.{Answer}
 use Rattle.machine.specs.declared.Answer.TheVariants.{False}
-use Rattle.machine.specs.declared.Maybe.{Maybe}
-use Rattle.machine.specs.declared.Maybe.TheVariants.{None, Is}
-use Rattle.machine.specs.declared.Opened.TheVariants.{Closed, Open}
 use Rattle.machine.specs.declared.Status.{Status}
 use Rattle.machine.specs.declared.Status.TheVariants.{Down, Idle, N2, N3, Busy}
 use Rattle.word.specs.Word.{value, bit, swapped}
@@ -29,14 +26,14 @@ use Rattle.replay.specs.Replay.{GoesOn, final, Right, RightAt}
 
 -- an ended operation
 pub record Settled (p k : ℕ) (log answers : List Entry) : Type 0 where
-  pub answer : Maybe
+  pub answer : Option Answer
   pub answered : Once p k answer answers
   pub logged : Logged p k answer log
 
 -- what the log holds for an open operation: by what its swap says, the stored answer, and whether it has swapped
-unfoldable pub due : Answer → Maybe → Bool → Maybe
-due says (Is a) has = Is a
-due says None true = Is says
+unfoldable pub due : Answer → Option Answer → Bool → Option Answer
+due says (Some a) has = Some a
+due says None true = Some says
 due says None false = None
 
 -- an entry that passes a test is in the log, this being the first
@@ -58,7 +55,7 @@ module _ (rows : List Row) (start : List ℕ) where
   abbrev pub has_swapped : (p k : ℕ) → List ℕ → Process → Bool
   has_swapped p k words r = r.checkpoint && same_bit (bit p (word_of rows k words)) r.kept.bit
 
-  abbrev pub owed : (p k : ℕ) → List ℕ → Process → Maybe
+  abbrev pub owed : (p k : ℕ) → List ℕ → Process → Option Answer
   owed p k words r = due (says k r.kept) r.stored (has_swapped p k words r)
 
   -- a swap on word w later than a is in the log; and one of a row of another process than p
@@ -95,36 +92,36 @@ module _ (rows : List Row) (start : List ℕ) where
     pub recalls : says k kept ≡ swap_says (kind_of (row_numbered rows k)) (value x)
 
   -- at A5: a swap that succeeded; an answer that held at the time of the reading; a lost swap, which is a compare's
-  pub data Pending (Late : Times) (p k t a x : ℕ) (log : List Entry) (has : Bool) (kept : Kept) (ans : Maybe) : Type 0 where
-    won : ans ≡ Is (says k kept) → has ≡ true → Pending Late p k t a x log has kept ans
+  pub data Pending (Late : Times) (p k t a x : ℕ) (log : List Entry) (has : Bool) (kept : Kept) (ans : Option Answer) : Type 0 where
+    won : ans ≡ Some (says k kept) → has ≡ true → Pending Late p k t a x log has kept ans
     held : Seen Late k t a x log → spoken ans ≡ answer_of (row_numbered rows k) (value x) → is_swapped (spoken ans) ≡ false → has ≡ false → Pending Late p k t a x log has kept ans
-    lost : Seen Late k t a x log → ans ≡ Is False → kind_of (row_numbered rows k) ≡ Compare → value x ≡ (row_numbered rows k).old → HasSwap (row_numbered rows k).word a log → has ≡ false
+    lost : Seen Late k t a x log → ans ≡ Some False → kind_of (row_numbered rows k) ≡ Compare → value x ≡ (row_numbered rows k).old → HasSwap (row_numbered rows k).word a log → has ≡ false
         → Pending Late p k t a x log has kept ans
 
   -- By stage. An advance that has lost is at A1 and A2 again with its checkpoint set, and its own bit is then not the kept one
-  abbrev pub AtStage : Times → (p k t : ℕ) → List ℕ → List Entry → Process → Stage → (x a : ℕ) → Maybe → Type 0
+  abbrev pub AtStage : Times → (p k t : ℕ) → List ℕ → List Entry → Process → Stage → (x a : ℕ) → Option Answer → Type 0
   AtStage Late p k t words log r A1 x a ans = (r.stored ≡ None) × (has_swapped p k words r ≡ false)
   AtStage Late p k t words log r A2 x a ans = (r.stored ≡ None) × (has_swapped p k words r ≡ false) × Reading Late p k t a x words log
   AtStage Late p k t words log r A3 x a ans = (r.stored ≡ None) × Reading Late p k t a x words log × Keeps p k x r.kept
   AtStage Late p k t words log r A4 x a ans = (r.stored ≡ None) × (r.checkpoint ≡ true) × Reading Late p k t a x words log × Keeps p k x r.kept
   AtStage Late p k t words log r A5 x a ans = (r.stored ≡ None) × Pending Late p k t a x log (has_swapped p k words r) r.kept ans
-  AtStage Late p k t words log r A6 x a ans = (held : Answer) × (r.stored ≡ Is held) × (ans ≡ Is held)
+  AtStage Late p k t words log r A6 x a ans = (held : Answer) × (r.stored ≡ Some held) × (ans ≡ Some held)
   AtStage Late p k t words log r V1 x a ans = Unit {0}
   AtStage Late p k t words log r V2 x a ans = r.stored ≡ None
   AtStage Late p k t words log r V3 x a ans = (r.stored ≡ None) × (r.checkpoint ≡ true)
   AtStage Late p k t words log r V4 x a ans = (r.stored ≡ None) × (has_swapped p k words r ≡ true)
-  AtStage Late p k t words log r V5 x a ans = (held : Answer) × (r.stored ≡ Is held)
+  AtStage Late p k t words log r V5 x a ans = (held : Answer) × (r.stored ≡ Some held)
   AtStage Late p k t words log r V6 x a ans = (r.stored ≡ None) × (has_swapped p k words r ≡ false)
 
   -- in the midst of work: a row is open
-  pub data BusyOk (Late : Times) (p t : ℕ) (words : List ℕ) (log : List Entry) (r : Process) (stage : Stage) (x a : ℕ) (ans : Maybe) : Type 0 where
-    working : (k : ℕ) → r.opened ≡ Open k → AtStage Late p k t words log r stage x a ans → BusyOk Late p t words log r stage x a ans
+  pub data BusyOk (Late : Times) (p t : ℕ) (words : List ℕ) (log : List Entry) (r : Process) (stage : Stage) (x a : ℕ) (ans : Option Answer) : Type 0 where
+    working : (k : ℕ) → r.opened ≡ Some k → AtStage Late p k t words log r stage x a ans → BusyOk Late p t words log r stage x a ans
 
   abbrev pub StatusOk : Times → (p t : ℕ) → List ℕ → List Entry → Process → Status → Type 0
   StatusOk Late p t words log r Down = Unit {0}
-  StatusOk Late p t words log r Idle = r.opened ≡ Closed
-  StatusOk Late p t words log r N2 = (r.opened ≡ Closed) × (r.begun < count rows p) × (r.stored ≡ None)
-  StatusOk Late p t words log r N3 = (r.opened ≡ Closed) × (r.begun < count rows p) × (r.stored ≡ None) × (r.checkpoint ≡ false)
+  StatusOk Late p t words log r Idle = r.opened ≡ None
+  StatusOk Late p t words log r N2 = (r.opened ≡ None) × (r.begun < count rows p) × (r.stored ≡ None)
+  StatusOk Late p t words log r N3 = (r.opened ≡ None) × (r.begun < count rows p) × (r.stored ≡ None) × (r.checkpoint ≡ false)
   StatusOk Late p t words log r (Busy stage x a ta ans) = BusyOk Late p t words log r stage x a ans
 
   -- the open row is the last begun one, has no answer row, and stands in the log as is due
@@ -140,8 +137,8 @@ module _ (rows : List Row) (start : List ℕ) where
     pub fits : r.begun ≤ count rows p
     pub future_log : (i : ℕ) → r.begun ≤ i → i < count rows p → of (first rows p + i) s.log ≡ []
     pub future_answers : (i : ℕ) → r.begun ≤ i → i < count rows p → of (first rows p + i) s.answers ≡ []
-    pub ended : (i : ℕ) → i < r.begun → (r.opened ≡ Open (first rows p + i) → ⊥) → Settled p (first rows p + i) s.log s.answers
-    pub opened : (k : ℕ) → r.opened ≡ Open k → IsOpen p k s r
+    pub ended : (i : ℕ) → i < r.begun → (r.opened ≡ Some (first rows p + i) → ⊥) → Settled p (first rows p + i) s.log s.answers
+    pub opened : (k : ℕ) → r.opened ≡ Some k → IsOpen p k s r
     pub work : StatusOk Late p t s.words s.log r r.status
 
   -- what holds of the whole

@@ -1,7 +1,7 @@
 -- What one byte makes of a process's record, whatever the state: nothing, or what a step, a crash or a wake makes of it. And what it does to the words,
 -- to the log and to the answers, in a state for which the invariant holds: nothing, or what is allowed to the process that it names, at that process's
 -- open row.
-use Rattle.std.specs.Prelude.{ℕ, ◌+◌, ◌≤◌, ◌<◌, ◌≡◌, Bool, cond, List, map, eqb, ltb, length, get_or, set}
+use Rattle.std.specs.Prelude.{ℕ, ◌+◌, ◌≤◌, ◌<◌, ◌≡◌, Bool, cond, List, map, eqb, ltb, length, get_or, set, Some, None}
 use Rattle.std.proofs.Math.Path.{refl, subst}
 use Rattle.std.proofs.Common.{sym, ◌∙◌, ap, get_or-set_same, get_or-set_other, eqb-true, ltb-true, ltb-false}
 use Rattle.std.proofs.Math.Bool.{true, false}
@@ -12,12 +12,10 @@ use Rattle.std.proofs.lemmas.Bool.{eqb-false}
 use Rattle.runfile.specs.declared.Row.{Row}
 use Rattle.runfile.specs.Operations.{row_numbered, first, count}
 use Rattle.runfile.specs.Actions.{Action, step as steps, crash as crashes, wake as wakes, crash_all as crashes_all, none as idles, action, named}
-use Rattle.machine.specs.declared.Opened.TheVariants.{Open}
 use Rattle.machine.specs.Turn.{Still, Quiet}
 use Rattle.machine.specs.declared.Process.{Process}
 use Rattle.rows.specs.declared.Entry.{Entry}
 use Rattle.machine.specs.Records.{fresh, crashed, waked, with_stored}
-use Rattle.machine.specs.declared.Maybe.TheVariants.{None}
 use Rattle.machine.specs.declared.Status.TheVariants.{N2}
 use Rattle.machine.specs.Steps.{step_turn_in}
 use Rattle.machine.specs.Machine.{State, Effect, Move, move_of, words_after, log_after, answers_after, proc_at, apply, applied, turn, turn_in, act, act_in, step, step_in}
@@ -76,13 +74,13 @@ module _ (rows : List Row) (start : List ℕ) (Late : Times) where
   -- the byte names process p, and leads from s, at time t, to s'
   pub data Does (p t : ℕ) (s s' : State) : Type 0 where
     nothing : s'.words ≡ s.words → s'.log ≡ s.log → s'.answers ≡ s.answers → Does p t s s'
-    allowed : (j : ℕ) (f : Effect) → j < count rows p → (proc_at p s).opened ≡ Open (first rows p + j) → Allowed rows start Late p (first rows p + j) t s f
+    allowed : (j : ℕ) (f : Effect) → j < count rows p → (proc_at p s).opened ≡ Some (first rows p + j) → Allowed rows start Late p (first rows p + j) t s f
         → s'.words ≡ words_after f s.words → s'.log ≡ log_after f s.log → s'.answers ≡ answers_after f s.answers → Does p t s s'
 
 module _ (rows : List Row) (start : List ℕ) (good : (k : ℕ) → Good (length start) (row_numbered rows k))
     (owner : (p i : ℕ) → i < count rows p → (row_numbered rows (first rows p + i)).process ≡ p)
     (Late : Times) (mono : (k a b : ℕ) → a ≤ b → Late k a → Late k b)
-    (P t : ℕ) (s : State) (now : (p k : ℕ) → (proc_at p s).opened ≡ Open k → Late k t) (v : Inv rows start Late P t s) where
+    (P t : ℕ) (s : State) (now : (p k : ℕ) → (proc_at p s).opened ≡ Some k → Late k t) (v : Inv rows start Late P t s) where
   does_own : (p : ℕ) (u : Move) → Own rows start Late p t s (proc_at p s) u → Does rows start Late p t s (applied p u s)
   unfolding applied apply
   does_own p u (calm e loc) = nothing (ap (λ f. words_after f s.words) e) (ap (λ f. log_after f s.log) e) (ap (λ f. answers_after f s.answers) e)

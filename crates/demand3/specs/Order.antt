@@ -1,7 +1,7 @@
 -- Real-time order (R253): row i of process p had ended when row j of process q had not begun. From then on every entry of the later row has a
 -- position at or after that time (this is the invariant, with a `Late` of its own), and the entry of the earlier row is from before. The log
 -- is ordered by position.
-use Rattle.std.specs.Prelude.{ℕ, suc, ◌+◌, ◌≤◌, ◌<◌, ◌≡◌, refl, true, cond, length}
+use Rattle.std.specs.Prelude.{ℕ, suc, ◌+◌, ◌≤◌, ◌<◌, ◌≡◌, refl, true, cond, length, Some}
 use Rattle.std.proofs.Math.Path.{sym, ap}
 use Rattle.std.proofs.Common.{◌∙◌, arith, ne_eqb, eqb-true}
 use Rattle.std.proofs.Math.Bool.{Bool, false}
@@ -13,7 +13,6 @@ use Rattle.runfile.specs.declared.Row.{Row}
 use Rattle.runfile.specs.Operations.{row_numbered, first, count}
 use Rattle.word.specs.Word.{value}
 use Rattle.rows.specs.declared.Entry.{Entry}
-use Rattle.machine.specs.declared.Opened.TheVariants.{Open}
 use Rattle.machine.specs.Machine.{State, proc_at, after, begin}
 use Rattle.replay.specs.Lists.{All, all_map, all_left, all_right, all_both, keep, keep_skip, Found, keep-found}
 use Rattle.replay.specs.Logs.{Ordered, Sorted, sorted_before}
@@ -80,7 +79,7 @@ module _ (rows : List Row) (words : List ℕ) (P : ℕ) (plan : Plan P (length w
           late = λ k a o n e. absurd (go k o e (eqb p q) refl);
         }
       where
-        go : (k : ℕ) → (proc_at p s₀).opened ≡ Open k → k ≡ first rows q + j → (c : Bool) → eqb p q ≡ c → ⊥
+        go : (k : ℕ) → (proc_at p s₀).opened ≡ Some k → k ≡ first rows q + j → (c : Bool) → eqb p q ≡ c → ⊥
         go k o e true c =
             let w : IsOpen rows start p k s₀ (proc_at p s₀) = ((inv pre).local p h).opened k o in
             let b : (proc_at q s₀).begun ≡ suc w.index = ap (λ p. (proc_at p s₀).begun) (sym (eqb-true p q c)) ∙ w.begun in

@@ -1,6 +1,6 @@
 -- What has ended stays as it is: an operation that has been begun and is no longer open never opens again, so the log rows that it has, or
 -- has not, stay whatever the bytes are; for an effect is at the open row of a process, and no two processes have the same row.
-use Rattle.std.specs.Prelude.{ℕ, suc, ◌+◌, ◌≤◌, ◌<◌, ◌≡◌, Bool, true, false, eqb, length}
+use Rattle.std.specs.Prelude.{ℕ, suc, ◌+◌, ◌≤◌, ◌<◌, ◌≡◌, Bool, true, false, eqb, length, Some}
 use Rattle.std.proofs.Math.Path.{refl, subst}
 use Rattle.std.proofs.Common.{sym, ◌∙◌, ap, arith, eqb-true}
 use mathlib.Core.List.{List, [], ◌∷◌}
@@ -9,7 +9,6 @@ use Rattle.runfile.specs.declared.Row.{Row}
 use Rattle.runfile.specs.Operations.{row_numbered, first, count}
 use Rattle.runfile.specs.Actions.{named}
 use Rattle.machine.specs.declared.Process.{Process}
-use Rattle.machine.specs.declared.Opened.TheVariants.{Open}
 use Rattle.machine.specs.declared.Status.{Status}
 use Rattle.machine.specs.declared.Status.TheVariants.{Down, Idle, N2, N3, Busy}
 use Rattle.machine.specs.Records.{waked}
@@ -27,7 +26,7 @@ use Rattle.demand3.specs.Moves.{Does, nothing, allowed, does}
 -- row i of process p has been begun and is not open
 pub record Passed (rows : List Row) (p i : ℕ) (r : Process) : Type 0 where
   pub begun : i < r.begun
-  pub shut : r.opened ≡ Open (first rows p + i) → ⊥
+  pub shut : r.opened ≡ Some (first rows p + i) → ⊥
 
 module _ (rows : List Row) (p i : ℕ) where
   passed_turned : (r next : Process) → Passed rows p i r → Turned rows p r next → Passed rows p i next
@@ -70,15 +69,15 @@ module _ (rows : List Row) (start : List ℕ) (good : (k : ℕ) → Good (length
   of_effect p k t j (replies e) s so a n = refl
 
   module _ (P p i : ℕ) (fits : i < count rows p) where
-    kept_step : (t : ℕ) (s : State) (now : (p k : ℕ) → (proc_at p s).opened ≡ Open k → Late k t) (v : Inv rows start Late P t s) → Passed rows p i (proc_at p s) → (byte : ℕ)
+    kept_step : (t : ℕ) (s : State) (now : (p k : ℕ) → (proc_at p s).opened ≡ Some k → Late k t) (v : Inv rows start Late P t s) → Passed rows p i (proc_at p s) → (byte : ℕ)
         → of (first rows p + i) (step rows t byte s).log ≡ of (first rows p + i) s.log
     kept_step t s now v passed byte = go (does rows start good owner Late mono P t s now v byte)
       where
         q : ℕ
         q = named byte
 
-        other : (j : ℕ) → j < count rows q → (proc_at q s).opened ≡ Open (first rows q + j) → (c : Bool) → eqb q p ≡ c → first rows q + j ≡ first rows p + i → ⊥
-        other j g o true c e = passed.shut (ap (λ q. (proc_at q s).opened) (sym (eqb-true q p c)) ∙ o ∙ ap Open e)
+        other : (j : ℕ) → j < count rows q → (proc_at q s).opened ≡ Some (first rows q + j) → (c : Bool) → eqb q p ≡ c → first rows q + j ≡ first rows p + i → ⊥
+        other j g o true c e = passed.shut (ap (λ q. (proc_at q s).opened) (sym (eqb-true q p c)) ∙ o ∙ ap Some e)
         other j g o false c e = distinct rows start good owner Late mono p q i j fits g (eqb-false q p c) (sym e)
 
         go : Does rows start Late q t s (step rows t byte s) → of (first rows p + i) (step rows t byte s).log ≡ of (first rows p + i) s.log

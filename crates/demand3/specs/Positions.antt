@@ -1,7 +1,7 @@
 -- Where the log rows and the answer rows stand in time. A log row of row k has a position at which the row is open: at or after its first
 -- reading it has begun (the invariant, with a `Late` that says so), and an ended row gets no log row from its end on. A swap's is that of the byte
 -- that changed the word, an answer row's that of the byte that ended the row: what one byte does (`Does`), over the schedule.
-use Rattle.std.specs.Prelude.{ℕ, zero, suc, ◌+◌, ◌≤◌, ◌<◌, ◌≡◌, refl, Bool, true, false, ◌&&◌, List, [], ◌∷◌, ◌++◌, map, eqb, ltb, get_or, set, take, drop}
+use Rattle.std.specs.Prelude.{ℕ, zero, suc, ◌+◌, ◌≤◌, ◌<◌, ◌≡◌, refl, Bool, true, false, ◌&&◌, List, [], ◌∷◌, ◌++◌, map, eqb, ltb, get_or, set, take, drop, Option, Some, None}
 use Rattle.std.proofs.Common.{sym, ◌∙◌, ap, true≢false, arith, zero-add, take-append-drop, take-take, length-take-le}
 use Rattle.std.proofs.Math.Path.{ap₂, subst}
 use Rattle.std.proofs.Math.Bool.{not}
@@ -14,8 +14,6 @@ use Rattle.runfile.specs.Actions.{named}
 use Rattle.word.specs.Word.{value}
 use Rattle.rows.specs.declared.Entry.{Entry}
 use Rattle.rows.specs.Entries.{said, is_swapped}
-use Rattle.machine.specs.declared.Opened.{Opened}
-use Rattle.machine.specs.declared.Opened.TheVariants.{Closed, Open}
 use Rattle.machine.specs.Machine.{State, quiet, swaps, logs, replies, proc_at, step, after, begin, after_in}
 use Rattle.machine.specs.Laws.{after_join, after_next, closed_open}
 use Rattle.replay.specs.Lists.{All, all_put, all_join, all_right, keep_put_yes, append_empty_right, Found, keep-found}
@@ -31,7 +29,7 @@ use Rattle.demand3.specs.Announce.{never_falls}
 use Rattle.demand3.specs.Order.{Always, good, own, inv}
 use Rattle.demand3.specs.Told.{reached, stays}
 
-pub open_same : {j k : ℕ} {o : Opened} → o ≡ Open j → o ≡ Open k → j ≡ k
+pub open_same : {j k : ℕ} {o : Option ℕ} → o ≡ Some j → o ≡ Some k → j ≡ k
 open_same e f = cc
 
 -- what holds of all holds of the one of row k
@@ -102,7 +100,7 @@ module _ (rows : List Row) (words : List ℕ) (P : ℕ) (plan : Plan P (length w
   has_later k a b h g = let f : (proc_at (owner_of rows k) (at a)).begun ≤ (proc_at (owner_of rows k) (at b)).begun = begun_stays (owner_of rows k) a b h in omega arith
 
   -- the open row of a process that is there
-  pub opened : (n : ℕ) → n ≤ length schedule → (p k : ℕ) → (proc_at p (at n)).opened ≡ Open k → p < P
+  pub opened : (n : ℕ) → n ≤ length schedule → (p k : ℕ) → (proc_at p (at n)).opened ≡ Some k → p < P
   opened n h p k o = go (ltb p P) refl
     where
       go : (c : Bool) → ltb p P ≡ c → p < P
@@ -110,7 +108,7 @@ module _ (rows : List Row) (words : List ℕ) (P : ℕ) (plan : Plan P (length w
       go false e =
           absurd (closed_open (sym (ap (λ r. r.opened) (absent rows start (good rows words P plan) (own rows words P plan) Always (λ k a b h g. tt) n (at n) (λ p k o. tt) P (inv_at n h) p (ltb-false p P e))) ∙ o))
 
-  pub owned : (n : ℕ) (h : n ≤ length schedule) (p k : ℕ) (o : (proc_at p (at n)).opened ≡ Open k) → owner_of rows k ≡ p
+  pub owned : (n : ℕ) (h : n ≤ length schedule) (p k : ℕ) (o : (proc_at p (at n)).opened ≡ Some k) → owner_of rows k ≡ p
   owned n h p k o =
       let l : Local rows start Always p n (at n) (proc_at p (at n)) = (inv_at n h).local p (opened n h p k o) in
       let w : IsOpen rows start p k (at n) (proc_at p (at n)) = l.opened k o in
@@ -118,7 +116,7 @@ module _ (rows : List Row) (words : List ℕ) (P : ℕ) (plan : Plan P (length w
       let f : (proc_at p (at n)).begun ≤ count rows p = l.fits in
       ap (owner_of rows) w.row ∙ own rows words P plan p w.index (omega arith)
 
-  has_now : (n : ℕ) → n ≤ length schedule → (p k : ℕ) → (proc_at p (at n)).opened ≡ Open k → Has k n
+  has_now : (n : ℕ) → n ≤ length schedule → (p k : ℕ) → (proc_at p (at n)).opened ≡ Some k → Has k n
   has_now n h p k o =
       let w : IsOpen rows start p k (at n) (proc_at p (at n)) = ((inv_at n h).local p (opened n h p k o)).opened k o in
       let b : (proc_at p (at n)).begun ≡ suc w.index = w.begun in
@@ -141,7 +139,7 @@ module _ (rows : List Row) (words : List ℕ) (P : ℕ) (plan : Plan P (length w
   abbrev Made : Entry → Type 0
   Made e = is_swapped (said e) ≡ true → swaps_at m rows e.row e.position (byte e.position) (at e.position) ≡ true
 
-  swap_here : (n : ℕ) (h : n < length schedule) (k w x : ℕ) (e : Entry) → (proc_at (named (byte n)) (at n)).opened ≡ Open k → Swapping rows start Always (named (byte n)) k n (at n) w x e
+  swap_here : (n : ℕ) (h : n < length schedule) (k w x : ℕ) (e : Entry) → (proc_at (named (byte n)) (at n)).opened ≡ Some k → Swapping rows start Always (named (byte n)) k n (at n) w x e
       → (at (suc n)).words ≡ set (at n).words w x → swaps_at m rows k n (byte n) (at n) ≡ true
   unfolding swaps_at
   swap_here n h k w x e o a ws =
@@ -170,7 +168,7 @@ module _ (rows : List Row) (words : List ℕ) (P : ℕ) (plan : Plan P (length w
     pub log_left_lem : of k (at (suc e.position)).log ≡ of k (at e.position).log
 
   -- the byte at n returns the answer e of row k
-  end-here : (n : ℕ) (h : n < length schedule) (k : ℕ) (e : Entry) → (proc_at (named (byte n)) (at n)).opened ≡ Open k → Allowed rows start Always (named (byte n)) k n (at n) (replies e)
+  end-here : (n : ℕ) (h : n < length schedule) (k : ℕ) (e : Entry) → (proc_at (named (byte n)) (at n)).opened ≡ Some k → Allowed rows start Always (named (byte n)) k n (at n) (replies e)
       → (at (suc n)).log ≡ (at n).log → (at (suc n)).answers ≡ (at n).answers ++ e ∷ [] → Ends k e
   end-here n h k e o a l an =
       let at_n : e.position ≡ n = a.2 in
@@ -245,12 +243,12 @@ module _ (rows : List Row) (words : List ℕ) (P : ℕ) (plan : Plan P (length w
           not_shut : (StillOpen m rows k (at e.position) → ⊥) → ⊥
           not_shut n = let h : e.position < e.position = before_end e.position (record { begun = begun_then; shut = n }) in omega arith
 
-          go : (o : Opened) → (proc_at (owner_of rows k) (at e.position)).opened ≡ o → (proc_at (owner_of rows k) (at e.position)).opened ≡ Open k
-          go Closed q = absurd (not_shut (λ o. closed_open (sym q ∙ o)))
-          go (Open j) q = row (eqb j k) refl
+          go : (o : Option ℕ) → (proc_at (owner_of rows k) (at e.position)).opened ≡ o → (proc_at (owner_of rows k) (at e.position)).opened ≡ Some k
+          go None q = absurd (not_shut (λ o. closed_open (sym q ∙ o)))
+          go (Some j) q = row (eqb j k) refl
             where
-              row : (c : Bool) → eqb j k ≡ c → (proc_at (owner_of rows k) (at e.position)).opened ≡ Open k
-              row true d = q ∙ ap Open (eqb-true j k d)
+              row : (c : Bool) → eqb j k ≡ c → (proc_at (owner_of rows k) (at e.position)).opened ≡ Some k
+              row true d = q ∙ ap Some (eqb-true j k d)
               row false d = absurd (not_shut (λ o. eqb-false j k d (open_same q o)))
 
       swap_then : is_swapped (said e) ≡ true → swaps_at m rows k e.position (byte e.position) (at e.position) ≡ true

@@ -1,5 +1,5 @@
 -- The invariant holds at first, and each byte keeps it.
-use Rattle.std.specs.Prelude.{ℕ, zero, suc, ◌+◌, ◌≤◌, ◌<◌, ◌/◌, ◌%◌, ◌≡◌, Bool, cond, eqb, get_or, set}
+use Rattle.std.specs.Prelude.{ℕ, zero, suc, ◌+◌, ◌≤◌, ◌<◌, ◌/◌, ◌%◌, ◌≡◌, Bool, cond, eqb, get_or, set, Option, Some, None}
 use Rattle.std.proofs.Math.Path.{refl, ap, subst}
 use Rattle.std.proofs.Common.{sym, ◌∙◌, arith, add-zero, suc-add, add-suc, get_or-set_same, get_or-set_other}
 use Rattle.std.proofs.Math.Bool.{true, false}
@@ -11,9 +11,6 @@ use Rattle.machine.specs.Machine.{Effect, quiet, swaps, logs, replies, Move, Sta
 use Rattle.runfile.specs.declared.Row.{Row}
 use Rattle.machine.specs.declared.Process.{Process}
 use Rattle.machine.specs.declared.Stage.TheVariants.{V1}
-use Rattle.machine.specs.declared.Maybe.TheVariants.{None}
-use Rattle.machine.specs.declared.Opened.{Opened}
-use Rattle.machine.specs.declared.Opened.TheVariants.{Closed, Open}
 use Rattle.machine.specs.declared.Status.{Status}
 use Rattle.machine.specs.declared.Status.TheVariants.{Down, Idle, N2, N3, Busy}
 use Rattle.word.specs.Word.{value}
@@ -51,12 +48,12 @@ module _ (rows : List Row) (start : List ℕ) (good : (k : ℕ) → Good (length
   pub distinct : (p q i j : ℕ) → i < count rows p → j < count rows q → (q ≡ p → ⊥) → first rows p + i ≡ first rows q + j → ⊥
   distinct p q i j h g n e = n (sym (owner q j g) ∙ ap (λ k. (row_numbered rows k).process) (sym e) ∙ owner p i h)
 
-  module _ (t : ℕ) (s : State) (now : (p k : ℕ) → (proc_at p s).opened ≡ Open k → Late k t) where
+  module _ (t : ℕ) (s : State) (now : (p k : ℕ) → (proc_at p s).opened ≡ Some k → Late k t) where
     -- nothing changes for p but the time
     local_same : (p : ℕ) (ps : List Process) (r : Process) → Local rows start Late p t s r → Local rows start Late p (suc t) (apply quiet ps s) r
     local_same p ps r l = local_frame rows start Late Late p t (suc t) s (apply quiet ps s) r (frame_quiet rows start good Late p t ps s r) l
 
-    pub own_turn : (p : ℕ) (r : Process) → ((k : ℕ) → r.opened ≡ Open k → Late k t) → Global rows start Late t s → Local rows start Late p t s r → (st : Status) → StatusOk rows start Late p t s.words s.log r st → Own rows start Late p t s r (turn rows p t s.words s.log r st)
+    pub own_turn : (p : ℕ) (r : Process) → ((k : ℕ) → r.opened ≡ Some k → Late k t) → Global rows start Late t s → Local rows start Late p t s r → (st : Status) → StatusOk rows start Late p t s.words s.log r st → Own rows start Late p t s r (turn rows p t s.words s.log r st)
     unfolding turn_in step_turn_in
     own_turn p r late g l Down h = calm refl (λ ps. local_same p ps r l)
     own_turn p r late g l Idle h = go (ltb r.begun (count rows p)) refl
@@ -76,9 +73,9 @@ module _ (rows : List Row) (start : List ℕ) (good : (k : ℕ) → Good (length
     own_wake : (p : ℕ) (r : Process) → Local rows start Late p t s r → (st : Status) → Own rows start Late p t s r (alone (waked r st))
     own_wake p r l Down = go r.opened refl
       where
-        go : (o : Opened) → r.opened ≡ o → Own rows start Late p t s r (alone (with_status (woken_up o) r))
-        go Closed e = calm refl (λ ps. own_status rows start Late p t s r l Idle ps e)
-        go (Open k) e = calm refl (λ ps. own_status rows start Late p t s r l (Busy V1 0 0 0 None) ps (working k e tt))
+        go : (o : Option ℕ) → r.opened ≡ o → Own rows start Late p t s r (alone (with_status (woken_up o) r))
+        go None e = calm refl (λ ps. own_status rows start Late p t s r l Idle ps e)
+        go (Some k) e = calm refl (λ ps. own_status rows start Late p t s r l (Busy V1 0 0 0 None) ps (working k e tt))
     own_wake p r l Idle = calm refl (λ ps. local_same p ps r l)
     own_wake p r l N2 = calm refl (λ ps. local_same p ps r l)
     own_wake p r l N3 = calm refl (λ ps. local_same p ps r l)

@@ -2,7 +2,7 @@
 -- last was ended by such a swap, later than the A1 of the round and earlier than its A4 (R118), and rounds do not overlap: in the midst of a round the
 -- rounds so far are one more, at most, than the swaps up to its A1 (`Ahead`). What a byte makes of the record keeps this.
 use Prim.Native.Nat.{ℕ, suc, ◌+◌, ◌≤◌, ◌<◌}
-use Rattle.std.specs.Prelude.{◌≡◌, Bool, true, false, not, cond, ◌&&◌, eqb, leb, ltb, length, get_or}
+use Rattle.std.specs.Prelude.{◌≡◌, Bool, true, false, not, cond, ◌&&◌, eqb, leb, ltb, length, get_or, Option, Some, None, ℕ}
 use Rattle.std.proofs.Math.Path.{refl, subst}
 use Rattle.std.proofs.Common.{sym, ◌∙◌, ap, zero-add}
 use mathlib.Core.List.{List, [], ◌∷◌, ◌++◌, map}
@@ -19,10 +19,6 @@ use Rattle.rows.specs.Log.{is_swap}
 use Rattle.machine.specs.declared.Process.{Process}
 use Rattle.machine.specs.declared.Answer.{Answer}
 use Rattle.machine.specs.declared.Answer.TheVariants.{False}
-use Rattle.machine.specs.declared.Maybe.{Maybe}
-use Rattle.machine.specs.declared.Maybe.TheVariants.{None, Is}
-use Rattle.machine.specs.declared.Opened.{Opened}
-use Rattle.machine.specs.declared.Opened.TheVariants.{Closed, Open}
 use Rattle.machine.specs.declared.Stage.{Stage}
 use Rattle.machine.specs.declared.Stage.TheVariants.{A1, A2, A3, A4, A5, A6, V1, V2, V3, V4, V5, V6}
 use Rattle.machine.specs.declared.Status.{Status}
@@ -104,7 +100,7 @@ module _ (rows : List Row) (start : List ℕ) (p k : ℕ) where
   record Ahead (n : ℕ) (r : Process) (log : List Entry) : Type 0 where
     unbegun : (k < first rows p + r.begun → ⊥) → n ≡ 0
     all : n ≤ suc (many rival log)
-    now : r.opened ≡ Open k → n ≤ suc (ended r.status log)
+    now : r.opened ≡ Some k → n ≤ suc (ended r.status log)
 
   rival-of : (a : ℕ) (e : Entry) → is_other rows start p w a e ≡ true → (rival e ≡ true) × (a < e.position)
   unfolding is_other is_rival
@@ -159,7 +155,7 @@ module _ (rows : List Row) (start : List ℕ) (p k : ℕ) where
         })
 
     -- it goes on, and not to A1: with so many swaps counted, or with all of them
-    onward : (next : Process) → next.opened ≡ r.opened → next.begun ≡ r.begun → is_a1 next.status ≡ false → (r.opened ≡ Open k → n ≤ suc (ended next.status log')) → Next next
+    onward : (next : Process) → next.opened ≡ r.opened → next.begun ≡ r.begun → is_a1 next.status ≡ false → (r.opened ≡ Some k → n ≤ suc (ended next.status log')) → Next next
     onward next o b a bound =
         calm next (not_come (is_row k r.opened && is_a1 r.status) (is_row k next.opened && is_a1 next.status) (not_there (is_row k next.opened) (is_a1 next.status) a))
         (record { unbegun = λ not_yet. h.unbegun (λ q. not_yet (subst (λ m. k < first rows p + m) (sym b) q)); all = grown; now = λ q. bound (sym o ∙ q) })
@@ -175,17 +171,17 @@ module _ (rows : List Row) (start : List ℕ) (p k : ℕ) where
     wake_next : (st : Status) → Next (waked r st)
     wake_next Down = go r.opened
       where
-        go : (o : Opened) → Next (with_status (woken_up o) r)
-        go Closed = free (with_status Idle r) refl refl refl
-        go (Open j) = free (with_status (Busy V1 0 0 0 None) r) refl refl refl
+        go : (o : Option ℕ) → Next (with_status (woken_up o) r)
+        go None = free (with_status Idle r) refl refl refl
+        go (Some j) = free (with_status (Busy V1 0 0 0 None) r) refl refl refl
     wake_next Idle = same
     wake_next N2 = same
     wake_next N3 = same
     wake_next (Busy stage seen read_at tried_at answer) = same
 
     -- a step, at time t
-    module _ (t : ℕ) (words : List ℕ) (below : All (λ e. e.position < t) log) (open_begun : r.opened ≡ Open k → k < first rows p + r.begun)
-        (beaten : (x a ta : ℕ) (ans : Maybe) → r.status ≡ Busy A4 x a ta ans → r.opened ≡ Open k → (word_of rows k words ≡ x → ⊥) → HasOther rows start p w a log) where
+    module _ (t : ℕ) (words : List ℕ) (below : All (λ e. e.position < t) log) (open_begun : r.opened ≡ Some k → k < first rows p + r.begun)
+        (beaten : (x a ta : ℕ) (ans : Option Answer) → r.status ≡ Busy A4 x a ta ans → r.opened ≡ Some k → (word_of rows k words ≡ x → ⊥) → HasOther rows start p w a log) where
       -- a row is begun: the first round of row k, or none of its
       begins : Next (started (first rows p + r.begun) r)
       begins = go (eqb (first rows p + r.begun) k) refl
@@ -203,7 +199,7 @@ module _ (rows : List Row) (start : List ℕ) (p k : ℕ) where
               calm next (not_come (is_row k r.opened && is_a1 r.status) (is_row k next.opened && is_a1 next.status) (ap (λ c. c && true) q))
               (record { unbegun = λ not_yet. h.unbegun (λ l. not_yet (omega arith)); all = grown; now = λ o. absurd (eqb-false (first rows p + r.begun) k q (open_same refl o)) })
 
-      module _ (j : ℕ) (o : r.opened ≡ Open j) where
+      module _ (j : ℕ) (o : r.opened ≡ Some j) where
         abbrev row : Row
         row = row_numbered rows j
 
@@ -211,7 +207,7 @@ module _ (rows : List Row) (start : List ℕ) (p k : ℕ) where
         word = word_of rows j words
 
         -- a lost advance goes back, and is beaten by one swap more than those up to its A1
-        back : (x a ta : ℕ) (ans : Maybe) → r.status ≡ Busy A4 x a ta ans → (word ≡ x → ⊥) → Next (with_status (Busy A1 0 0 0 None) r)
+        back : (x a ta : ℕ) (ans : Option Answer) → r.status ≡ Busy A4 x a ta ans → (word ≡ x → ⊥) → Next (with_status (Busy A1 0 0 0 None) r)
         back x a ta ans e lost = go (eqb j k) refl
           where
             next : Process
@@ -220,7 +216,7 @@ module _ (rows : List Row) (start : List ℕ) (p k : ℕ) where
             go : (c : Bool) → eqb j k ≡ c → Next next
             go true q =
                 let is : j ≡ k = eqb-true j k q in
-                let ok : r.opened ≡ Open k = o ∙ ap Open is in
+                let ok : r.opened ≡ Some k = o ∙ ap Some is in
                 let so_far : n ≤ suc (many (up_to a) log) = subst (λ st. n ≤ suc (ended st log)) e (h.now ok) in
                 let more : suc (many (up_to a) log) ≤ many rival log = one_more a log (beaten x a ta ans e ok (subst (λ j. word_of rows j words ≡ x → ⊥) is lost)) in
                 let up : many rival log ≤ many rival log' = g rival in
@@ -236,22 +232,22 @@ module _ (rows : List Row) (start : List ℕ) (p k : ℕ) where
             onward (with_status (Busy A2 word t 0 None) r) refl refl refl
             (λ _. let a : n ≤ suc (many rival log) = h.all in let b : many rival log ≤ many (up_to t) log = all_up_to t log below in let c : many (up_to t) log ≤ many (up_to t) log' = g (up_to t) in omega arith)
 
-        counted : (x a ta : ℕ) (ans : Maybe) (stage : Stage) → in_round stage ≡ true → r.status ≡ Busy stage x a ta ans → r.opened ≡ Open k → n ≤ suc (many (up_to a) log')
+        counted : (x a ta : ℕ) (ans : Option Answer) (stage : Stage) → in_round stage ≡ true → r.status ≡ Busy stage x a ta ans → r.opened ≡ Some k → n ≤ suc (many (up_to a) log')
         counted x a ta ans stage i e ok =
             let b : n ≤ suc (cond (in_round stage) (many (up_to a) log) (many rival log)) = subst (λ st. n ≤ suc (ended st log)) e (h.now ok) in
             let d : n ≤ suc (many (up_to a) log) = subst (λ c. n ≤ suc (cond c (many (up_to a) log) (many rival log))) i b in
             let c : many (up_to a) log ≤ many (up_to a) log' = g (up_to a) in
             omega arith
 
-        tries : (x a ta : ℕ) (ans : Maybe) → r.status ≡ Busy A4 x a ta ans → (y : ℕ) (says : Answer) (kind : Kind) (c : Bool) → eqb word x ≡ c
-            → Next (process_of r (cond c (Swaps (with_status (Busy A5 x a t (Is says)) r) y says) (Quiet (with_status (lost_by kind x a t) r))))
-        tries x a ta ans e y says kind true q = free (with_status (Busy A5 x a t (Is says)) r) refl refl refl
+        tries : (x a ta : ℕ) (ans : Option Answer) → r.status ≡ Busy A4 x a ta ans → (y : ℕ) (says : Answer) (kind : Kind) (c : Bool) → eqb word x ≡ c
+            → Next (process_of r (cond c (Swaps (with_status (Busy A5 x a t (Some says)) r) y says) (Quiet (with_status (lost_by kind x a t) r))))
+        tries x a ta ans e y says kind true q = free (with_status (Busy A5 x a t (Some says)) r) refl refl refl
         tries x a ta ans e y says kind false q =
-            lost_leads (λ st. Next (with_status st r)) kind x a t (free (with_status (Busy A5 x a t (Is False)) r) refl refl refl) (back x a ta ans e (eqb-false word x q))
+            lost_leads (λ st. Next (with_status st r)) kind x a t (free (with_status (Busy A5 x a t (Some False)) r) refl refl refl) (back x a ta ans e (eqb-false word x q))
 
-        stage_next : (stage : Stage) (x a ta : ℕ) (ans : Maybe) → r.status ≡ Busy stage x a ta ans → Next (process_of r (decide row p t word r stage x a ta ans))
+        stage_next : (stage : Stage) (x a ta : ℕ) (ans : Option Answer) → r.status ≡ Busy stage x a ta ans → Next (process_of r (decide row p t word r stage x a ta ans))
         unfolding decide_in tried_in
-        stage_next A1 x a ta ans e = read_leads (λ st. Next (with_status st r)) row word t reads_on (λ answer. free (with_status (Busy A5 word t 0 (Is answer)) r) refl refl refl)
+        stage_next A1 x a ta ans e = read_leads (λ st. Next (with_status st r)) row word t reads_on (λ answer. free (with_status (Busy A5 word t 0 (Some answer)) r) refl refl refl)
         stage_next A2 x a ta ans e = onward _ refl refl refl (counted x a ta ans A2 refl e)
         stage_next A3 x a ta ans e = onward _ refl refl refl (counted x a ta ans A3 refl e)
         stage_next A4 x a ta ans e = tries x a ta ans e (swapped p (new_of row (value x)) x) (swap_says (kind_of row) (value x)) (kind_of row) (eqb word x) refl
@@ -261,9 +257,9 @@ module _ (rows : List Row) (start : List ℕ) (p k : ℕ) where
         stage_next A6 x a ta ans e = free _ refl refl refl
         stage_next V1 x a ta ans e = go r.stored
           where
-            go : (m : Maybe) → Next (with_status (Busy (recovered m) x a ta ans) r)
+            go : (m : Option Answer) → Next (with_status (Busy (recovered m) x a ta ans) r)
             go None = free _ refl refl refl
-            go (Is b) = free _ refl refl refl
+            go (Some b) = free _ refl refl refl
         stage_next V2 x a ta ans e = either (λ stage. Next (with_status (Busy stage x a ta ans) r)) r.checkpoint V3 V6 (free _ refl refl refl) (free _ refl refl refl)
         stage_next V3 x a ta ans e = either (λ stage. Next (with_status (Busy stage word a ta ans) r)) (same_bit (bit p word) r.kept.bit) V4 V6 (free _ refl refl refl) (free _ refl refl refl)
         stage_next V4 x a ta ans e = free _ refl refl refl
@@ -278,9 +274,9 @@ module _ (rows : List Row) (start : List ℕ) (p k : ℕ) where
       turn_next N3 e = begins
       turn_next (Busy stage x a ta ans) e = go r.opened refl
         where
-          go : (o : Opened) → r.opened ≡ o → Next (process_of r (at_work (row_numbered rows (row_open o)) p t (get_or words (row_numbered rows (row_open o)).word 0) r o stage x a ta ans))
-          go Closed q = same
-          go (Open j) q = stage_next j q stage x a ta ans e
+          go : (o : Option ℕ) → r.opened ≡ o → Next (process_of r (at_work (row_numbered rows (row_open o)) p t (get_or words (row_numbered rows (row_open o)).word 0) r o stage x a ta ans))
+          go None q = same
+          go (Some j) q = stage_next j q stage x a ta ans e
 
 -- the log comes to more by whatever a byte does
 grows_put : {l l' : List Entry} (e : Entry) → Put e l l' → Grows l l'
@@ -313,7 +309,7 @@ module _ (rows : List Row) (words : List ℕ) (P : ℕ) (plan : Plan P (length w
     local : Local rows start Always mine t s (proc_at mine s)
     local = v.local mine (plan.present k there)
 
-    open_begun : (proc_at mine s).opened ≡ Open k → k < first rows mine + (proc_at mine s).begun
+    open_begun : (proc_at mine s).opened ≡ Some k → k < first rows mine + (proc_at mine s).begun
     open_begun o =
         let h : IsOpen rows start mine k s (proc_at mine s) = local.opened k o in
         let b : (proc_at mine s).begun ≡ suc h.index = h.begun in

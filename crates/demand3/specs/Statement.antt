@@ -5,7 +5,7 @@
 -- `Wrong.antt` gives five machines that break it.
 --
 -- An operation is a row of the file, known by its number k.
-use Rattle.std.specs.Prelude.{ℕ, suc, ◌+◌, ◌≤◌, ◌<◌, ◌≡◌, Bool, true, false, not, ◌&&◌, List, [], ◌∷◌, ◌++◌, map, eqb, length, get_or, take}
+use Rattle.std.specs.Prelude.{ℕ, suc, ◌+◌, ◌≤◌, ◌<◌, ◌≡◌, Bool, true, false, not, ◌&&◌, List, [], ◌∷◌, ◌++◌, map, eqb, length, get_or, take, Option, Some, None}
 use Rattle.runfile.specs.declared.Row.{Row}
 use Rattle.runfile.specs.Operations.{row_numbered, first}
 use Rattle.runfile.specs.Kinds.{kind_of}
@@ -13,10 +13,6 @@ use Rattle.runfile.specs.Actions.{named}
 use Rattle.rows.specs.declared.Entry.{Entry}
 use Rattle.rows.specs.Entries.{said, is_swapped}
 use Rattle.machine.specs.declared.Answer.{Answer}
-use Rattle.machine.specs.declared.Maybe.{Maybe}
-use Rattle.machine.specs.declared.Maybe.TheVariants.{None, Is}
-use Rattle.machine.specs.declared.Opened.{Opened}
-use Rattle.machine.specs.declared.Opened.TheVariants.{Closed, Open}
 use Rattle.machine.specs.Steps.{spoken, swap_says}
 use Rattle.replay.specs.Plain.{Replayed}
 use Rattle.replay.specs.Lists.{All, keep}
@@ -27,16 +23,16 @@ unfoldable pub of : ℕ → List Entry → List Entry
 of k entries = keep (λ e. eqb e.row k) entries
 
 -- row k stands there exactly once, for process p, with the verdict and value of this answer (of none: fail)
-pub record Once (p k : ℕ) (answer : Maybe) (entries : List Entry) : Type 0 where
+pub record Once (p k : ℕ) (answer : Option Answer) (entries : List Entry) : Type 0 where
   pub entry : Entry
   pub once : of k entries ≡ entry ∷ []
   pub process : entry.process ≡ p
   pub says_so : said entry ≡ spoken answer
 
 -- what the log holds of an operation that was told so: one told fail does not stand there
-abbrev pub Logged : ℕ → ℕ → Maybe → List Entry → Type 0
+abbrev pub Logged : ℕ → ℕ → Option Answer → List Entry → Type 0
 Logged p k None log = of k log ≡ []
-Logged p k (Is a) log = Once p k (Is a) log
+Logged p k (Some a) log = Once p k (Some a) log
 
 -- x stands in the log before y
 pub record Before (x y : Entry) (log : List Entry) : Type 0 where
@@ -45,9 +41,9 @@ pub record Before (x y : Entry) (log : List Entry) : Type 0 where
   pub back : List Entry
   pub whole : log ≡ front ++ x ∷ (middle ++ y ∷ back)
 
-abbrev pub is_row : ℕ → Opened → Bool
-is_row k Closed = false
-is_row k (Open j) = eqb j k
+abbrev pub is_row : ℕ → Option ℕ → Bool
+is_row k None = false
+is_row k (Some j) = eqb j k
 
 -- 1 if it is so
 abbrev pub counts : Bool → ℕ
@@ -67,8 +63,8 @@ pub record Firmware : Type 1 where
   pub answers : State → List Entry
   -- of a process: how many rows it has begun, which row it has open, and the answer that it has stored for it
   pub begun : (p : ℕ) → State → ℕ
-  pub opened : (p : ℕ) → State → Opened
-  pub stored : (p : ℕ) → State → Maybe
+  pub opened : (p : ℕ) → State → Option ℕ
+  pub stored : (p : ℕ) → State → Option Answer
 
 module _ (rows : List Row) where
   -- the process whose row k is, and the word that row k is on
@@ -79,7 +75,7 @@ module _ (rows : List Row) where
   word_of k words = get_or words (row_numbered rows k).word 0
 
 -- how often an operation that was told this has swapped: once if it was told of a successful swap, and else never
-unfoldable pub swaps_told : Maybe → ℕ
+unfoldable pub swaps_told : Option Answer → ℕ
 swaps_told told = counts (is_swapped (spoken told))
 
 -- the bytes of a schedule, the first of them at position t (R70)
@@ -93,14 +89,14 @@ module _ (m : Firmware) (rows : List Row) where
   Begun k s = k < first rows (owner_of rows k) + m.begun (owner_of rows k) s
 
   abbrev pub StillOpen : ℕ → m.State → Type 0
-  StillOpen k s = m.opened (owner_of rows k) s ≡ Open k
+  StillOpen k s = m.opened (owner_of rows k) s ≡ Some k
 
   pub record Ended (k : ℕ) (s : m.State) : Type 0 where
     pub begun : Begun k s
     pub shut : StillOpen k s → ⊥
 
   -- its answer is stored: the row is open, and the answer is kept with it (R250)
-  abbrev pub Stored : ℕ → Maybe → m.State → Type 0
+  abbrev pub Stored : ℕ → Option Answer → m.State → Type 0
   Stored k answer s = m.stored (owner_of rows k) s ≡ answer
 
   -- the byte at position t swaps for row k (R243): the process that it names has row k open, and the row's word is changed by it
@@ -131,7 +127,7 @@ module _ (m : Firmware) (rows : List Row) (schedule : List ℕ) where
   -- of a successful swap, by true or by the value before, it swapped exactly once; told anything else, it never swapped; and whatever bytes were to
   -- follow, that would be so (R248)
   pub record Told (k : ℕ) (log answers : List Entry) : Type 0 where
-    pub answer : Maybe
+    pub answer : Option Answer
     pub answered : Once (owner_of rows k) k answer answers
     pub logged : Logged (owner_of rows k) k answer log
     pub swapped : (more : List ℕ) → swaps_with k more ≡ swaps_told answer
@@ -142,8 +138,8 @@ module _ (m : Firmware) (rows : List Row) (schedule : List ℕ) where
   pub record Untold (k : ℕ) (log answers : List Entry) : Type 0 where
     pub unanswered : of k answers ≡ []
     pub at_most_once : swaps k ≤ 1
-    pub has_swapped_lem : swaps k ≡ 1 → (v : ℕ) × Once (owner_of rows k) k (Is (swap_says (kind_of (row_numbered rows k)) v)) log
-    pub has_stored : (a : Answer) → Stored m rows k (Is a) (end_state m schedule) → Once (owner_of rows k) k (Is a) log
+    pub has_swapped_lem : swaps k ≡ 1 → (v : ℕ) × Once (owner_of rows k) k (Some (swap_says (kind_of (row_numbered rows k)) v)) log
+    pub has_stored : (a : Answer) → Stored m rows k (Some a) (end_state m schedule) → Once (owner_of rows k) k (Some a) log
     pub neither : swaps k ≡ 0 → Stored m rows k None (end_state m schedule) → of k log ≡ []
 
   -- one not begun stands nowhere (R251)

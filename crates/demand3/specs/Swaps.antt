@@ -1,6 +1,6 @@
 -- The log tells of as many successful swaps of a row as the row has made. Each byte that changes the row's word while the row is open is a swap of that
 -- row, and puts one entry that tells so into the log; no other byte does.
-use Rattle.std.specs.Prelude.{ℕ, suc, ◌+◌, ◌^◌, ◌≤◌, ◌<◌, ◌≡◌, refl, Bool, true, false, not, ◌&&◌, eqb, length, get_or, set}
+use Rattle.std.specs.Prelude.{ℕ, suc, ◌+◌, ◌^◌, ◌≤◌, ◌<◌, ◌≡◌, refl, Bool, true, false, not, ◌&&◌, eqb, length, get_or, set, Option, Some, None}
 use Rattle.std.proofs.Math.Path.{sym}
 use Rattle.std.proofs.Common.{◌∙◌, ap, subst, true≢false, zero-add, add-zero, get_or-set_same, eq-eqb, ne_eqb, eqb-true}
 use mathlib.Core.List.{List, [], ◌∷◌, ◌++◌}
@@ -15,9 +15,6 @@ use Rattle.word.specs.Laws.{after_swap}
 use Rattle.rows.specs.declared.Entry.{Entry}
 use Rattle.rows.specs.Entries.{said, is_swapped}
 use Rattle.machine.specs.declared.Answer.{Answer}
-use Rattle.machine.specs.declared.Maybe.{Maybe}
-use Rattle.machine.specs.declared.Maybe.TheVariants.{None, Is}
-use Rattle.machine.specs.declared.Opened.TheVariants.{Open}
 use Rattle.machine.specs.Steps.{spoken, swap_says}
 use Rattle.machine.specs.Machine.{State, Effect, quiet, swaps, logs, replies, words_after, log_after, proc_at, step, after, after_in}
 use Rattle.replay.specs.Lists.{keep, keep_join, keep_put_yes, Found, keep-found}
@@ -89,7 +86,7 @@ module _ (rows : List Row) (k : ℕ) where
 module _ (rows : List Row) (start : List ℕ) (good : (k : ℕ) → Good (length start) (row_numbered rows k))
     (owner : (p i : ℕ) → i < count rows p → (row_numbered rows (first rows p + i)).process ≡ p)
     (Late : Times) (mono : (k a b : ℕ) → a ≤ b → Late k a → Late k b) (P : ℕ) (words : List ℕ) (k : ℕ) where
-  module _ (t : ℕ) (s : State) (now : (p k : ℕ) → (proc_at p s).opened ≡ Open k → Late k t) (v : Inv rows start Late P t s) where
+  module _ (t : ℕ) (s : State) (now : (p k : ℕ) → (proc_at p s).opened ≡ Some k → Late k t) (v : Inv rows start Late P t s) where
     -- an allowed swap changes its word
     pub changed : (p j x n : ℕ) (e : Entry) (s' : State) → Swapping rows start Late p j t s x n e → s'.words ≡ set s.words x n → eqb (word_of rows j s.words) (word_of rows j s'.words) ≡ false
     changed p j x n e s' a w =
@@ -134,12 +131,12 @@ module _ (rows : List Row) (start : List ℕ) (good : (k : ℕ) → Good (length
       omega arith
 
 -- what stands in the log, by how often the row has swapped
-pub logged_count : (p k : ℕ) (m : Maybe) (log : List Entry) → Logged p k m log → swaps_of k log ≡ swaps_told m
+pub logged_count : (p k : ℕ) (m : Option Answer) (log : List Entry) → Logged p k m log → swaps_of k log ≡ swaps_told m
 unfolding swaps_of swaps_in swaps_told is_swapped spoken
 logged_count p k None log h = ap swaps_in h
-logged_count p k (Is a) log h = ap swaps_in h.once ∙ ap (λ d. counts (is_swapped d) + 0) h.says_so ∙ add-zero (counts (is_swapped (spoken (Is a))))
+logged_count p k (Some a) log h = ap swaps_in h.once ∙ ap (λ d. counts (is_swapped d) + 0) h.says_so ∙ add-zero (counts (is_swapped (spoken (Some a))))
 
-pub told_once : (m : Maybe) → swaps_told m ≤ 1
+pub told_once : (m : Option Answer) → swaps_told m ≤ 1
 unfolding swaps_told
 told_once m = go (is_swapped (spoken m))
   where
@@ -147,7 +144,7 @@ told_once m = go (is_swapped (spoken m))
     go true = omega arith
     go false = omega arith
 
-told_swap : (m : Maybe) → swaps_told m ≡ 1 → is_swapped (spoken m) ≡ true
+told_swap : (m : Option Answer) → swaps_told m ≡ 1 → is_swapped (spoken m) ≡ true
 unfolding swaps_told
 told_swap m = go (is_swapped (spoken m))
   where
@@ -156,20 +153,20 @@ told_swap m = go (is_swapped (spoken m))
     go false e = absurd (omega arith)
 
 -- a row that stands in a log that replays right, and tells there of a successful swap, tells what a swap of its kind says
-pub logged_swapped : (rows : List Row) (start : List ℕ) (p k : ℕ) (m : Maybe) (log : List Entry) → Right rows start log → Logged p k m log → swaps_told m ≡ 1
-    → (v : ℕ) × Once p k (Is (swap_says (kind_of (row_numbered rows k)) v)) log
+pub logged_swapped : (rows : List Row) (start : List ℕ) (p k : ℕ) (m : Option Answer) (log : List Entry) → Right rows start log → Logged p k m log → swaps_told m ≡ 1
+    → (v : ℕ) × Once p k (Some (swap_says (kind_of (row_numbered rows k)) v)) log
 unfolding of swaps_told is_swapped spoken
 logged_swapped rows start p k None log r h e = absurd (omega arith)
-logged_swapped rows start p k (Is a) log r h e =
+logged_swapped rows start p k (Some a) log r h e =
     let d : Found (λ e. eqb e.row k) log h.entry = keep-found (λ e. eqb e.row k) log h.entry [] h.once in
     let v : ℕ = get_or (final rows start d.front) (row_numbered rows h.entry.row).word 0 in
     let right : said h.entry ≡ answer_of (row_numbered rows h.entry.row) v = (right_right rows start d.front (h.entry ∷ d.back) (subst (Right rows start) d.whole r)).0 in
     let own : said h.entry ≡ answer_of (row_numbered rows k) v = right ∙ ap (λ j. answer_of (row_numbered rows j) v) (eqb-true h.entry.row k d.passes) in
-    let swap : is_swapped (answer_of (row_numbered rows k) v) ≡ true = ap is_swapped (sym own ∙ h.says_so) ∙ told_swap (Is a) e in
+    let swap : is_swapped (answer_of (row_numbered rows k) v) ≡ true = ap is_swapped (sym own ∙ h.says_so) ∙ told_swap (Some a) e in
     (v, record { entry = h.entry; once = h.once; process = h.process; says_so = own ∙ answer_says (row_numbered rows k) v swap })
 
 -- no answer stored, and no swap
-pub logged_not : (says : Answer) → is_swapped (spoken (Is says)) ≡ true → (p k : ℕ) (has : Bool) (log : List Entry) → Logged p k (due says None has) log → swaps_told (due says None has) ≡ 0 → of k log ≡ []
+pub logged_not : (says : Answer) → is_swapped (spoken (Some says)) ≡ true → (p k : ℕ) (has : Bool) (log : List Entry) → Logged p k (due says None has) log → swaps_told (due says None has) ≡ 0 → of k log ≡ []
 unfolding due swaps_told
 logged_not says t p k true log h e = absurd (let z : counts true ≡ 0 = rw t at e in omega arith)
 logged_not says t p k false log h e = h

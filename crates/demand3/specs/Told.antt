@@ -1,6 +1,6 @@
 -- What the invariant, the count of swaps and the order in time say of row number k, which is the i-th row of its process: what it was told if it
 -- has ended, what stands of it if it is open or has not begun, and that it comes before a row that began after its end.
-use Rattle.std.specs.Prelude.{ℕ, ◌+◌, ◌≤◌, ◌<◌, ◌≡◌, refl, true, false, ltb, length, take, drop}
+use Rattle.std.specs.Prelude.{ℕ, ◌+◌, ◌≤◌, ◌<◌, ◌≡◌, refl, true, false, ltb, length, take, drop, Option, Some, None}
 use Rattle.std.proofs.Math.Path.{sym, ap, subst}
 use Rattle.std.proofs.Common.{◌∙◌, arith, ltb-true, ltb-false, take-append-drop}
 use mathlib.Core.List.{List, [], ◌∷◌, ◌++◌, map}
@@ -12,9 +12,6 @@ use Rattle.runfile.specs.Kinds.{kind_of}
 use Rattle.word.specs.Word.{value}
 use Rattle.rows.specs.declared.Entry.{Entry}
 use Rattle.machine.specs.declared.Answer.{Answer}
-use Rattle.machine.specs.declared.Maybe.{Maybe}
-use Rattle.machine.specs.declared.Maybe.TheVariants.{None}
-use Rattle.machine.specs.declared.Opened.TheVariants.{Open}
 use Rattle.machine.specs.Machine.{State, proc_at, after, begin}
 use Rattle.machine.specs.Laws.{after_join}
 use Rattle.machine.specs.KindLaws.{says-swapped}
@@ -68,7 +65,7 @@ module _ (rows : List Row) (words : List ℕ) (P : ℕ) (plan : Plan P (length w
     passed s e =
         let b : k < first rows p + (proc_at p s).begun = e.begun in
         let a : first rows p + i ≡ k = is in
-        record { begun = omega arith; shut = λ o. e.shut (o ∙ ap Open is) }
+        record { begun = omega arith; shut = λ o. e.shut (o ∙ ap Some is) }
 
     pub not_yet : (s : State) → (Begun m rows k s → ⊥) → (proc_at p s).begun ≤ i
     not_yet s n = go (ltb i (proc_at p s).begun) refl
@@ -101,7 +98,7 @@ module _ (rows : List Row) (words : List ℕ) (P : ℕ) (plan : Plan P (length w
             swapped = λ more. counted (schedule ++ more) k ∙ ap swaps_in (stays schedule more e) ∙ logged_count p k h.answer s.log h.logged;
           }
 
-      stored_there : {a : Maybe} → (proc_at p (through m 0 schedule (begin P words))).stored ≡ a → (proc_at p s).stored ≡ a
+      stored_there : {a : Option Answer} → (proc_at p (through m 0 schedule (begin P words))).stored ≡ a → (proc_at p s).stored ≡ a
       stored_there e = ap (λ s. (proc_at p s).stored) (sym (reached schedule)) ∙ e
 
       pub untold : StillOpen m rows k s → Untold m rows schedule k s.log s.answers
@@ -110,7 +107,7 @@ module _ (rows : List Row) (words : List ℕ) (P : ℕ) (plan : Plan P (length w
           let h : IsOpen rows (map value words) p k s (proc_at p s) = (local schedule).opened k o in
           let said : Answer = says rows (map value words) k (proc_at p s).kept in
           let has : Bool = has_swapped rows (map value words) p k s.words (proc_at p s) in
-          let d : Maybe = owed rows (map value words) p k s.words (proc_at p s) in
+          let d : Option Answer = owed rows (map value words) p k s.words (proc_at p s) in
           let n : swap_count m rows k 0 schedule (begin P words) ≡ swaps_told d = counted schedule k ∙ logged_count p k d s.log h.stands in
           record {
             unanswered = h.unanswered;

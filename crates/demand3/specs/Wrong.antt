@@ -1,14 +1,13 @@
 -- Five wrong machines, to be held against demand 3, which is said of each one's own states. Each differs from the bench machine in one rule, and each
 -- has a short run that breaks the statement (`proofs/Wrong.antt`): so it is not a statement that any machine would meet.
-use Rattle.std.specs.Prelude.{ℕ, ◌≡◌, cond, false, List, [], ◌∷◌, ◌++◌, eqb, replicate}
+use Rattle.std.specs.Prelude.{ℕ, ◌≡◌, cond, false, List, [], ◌∷◌, ◌++◌, eqb, replicate, Option, Some, None}
 use Rattle.std.proofs.Common.{sym, ◌∙◌, ap, arith}
 use Rattle.runfile.specs.declared.Row.{Row}
 use Rattle.runfile.specs.Kinds.{kind_of}
 use Rattle.rows.specs.declared.Entry.{Entry}
 use Rattle.word.specs.Word.{value}
+use Rattle.machine.specs.declared.Answer.{Answer}
 use Rattle.machine.specs.declared.Answer.TheVariants.{False}
-use Rattle.machine.specs.declared.Maybe.{Maybe}
-use Rattle.machine.specs.declared.Maybe.TheVariants.{None, Is}
 use Rattle.machine.specs.declared.Process.{Process}
 use Rattle.machine.specs.declared.Stage.TheVariants.{A1, V4, V5, V6}
 use Rattle.machine.specs.declared.Status.{Status}
@@ -56,14 +55,14 @@ unfoldable pub captured : State
 captured = end_state capturing capture_schedule
 
 -- whatever was told true, by a machine that has nothing of it in its log
-pub told-alone : (p k : ℕ) (e : Entry) (log answers : List Entry) → of k answers ≡ e ∷ [] → e.verdict ≡ 1 → of k log ≡ [] → (m : Maybe) → Once p k m answers → Logged p k m log → ⊥
+pub told-alone : (p k : ℕ) (e : Entry) (log answers : List Entry) → of k answers ≡ e ∷ [] → e.verdict ≡ 1 → of k log ≡ [] → (m : Option Answer) → Once p k m answers → Logged p k m log → ⊥
 unfolding spoken
 told-alone p k e log answers told v none None a l =
     let same : e ∷ [] ≡ a.entry ∷ [] = sym told ∙ a.once in
     let x : e.verdict ≡ a.entry.verdict = cc in
     let y : a.entry.verdict ≡ 2 = ap (λ d. d.verdict) a.says_so in
     omega arith
-told-alone p k e log answers told v none (Is x) a l = let same : [] ≡ l.entry ∷ [] = sym none ∙ l.once in let z : ◌≡◌ {A = ℕ} 0 1 = cc in omega arith
+told-alone p k e log answers told v none (Some x) a l = let same : [] ≡ l.entry ∷ [] = sym none ∙ l.once in let z : ◌≡◌ {A = ℕ} 0 1 = cc in omega arith
 
 -- 2. A lost swap that takes the position of its own A4 (R283), in place of that of the swap that beat it (R167)
 unfoldable pub at_its_a4 : Row → (now next : ℕ) → Process → Turn → Turn
@@ -144,7 +143,7 @@ rereading row now r Idle u = u
 rereading row now r N2 u = u
 rereading row now r N3 u = u
 rereading row now r (Busy stage seen read_at tried_at answer) u =
-    cond (eqb (stage_number stage) 9) (Quiet (with_stored (Busy V5 seen read_at tried_at answer) (Is (swap_says (kind_of row) (value now))) r)) u
+    cond (eqb (stage_number stage) 9) (Quiet (with_stored (Busy V5 seen read_at tried_at answer) (Some (swap_says (kind_of row) (value now))) r)) u
 
 unfoldable pub as_it_stands : Row → (now next : ℕ) → Process → Turn → Turn
 as_it_stands row now next r u = rereading row now r r.status u

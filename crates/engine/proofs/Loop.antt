@@ -1,5 +1,6 @@
 -- One turn of the loop over a part of a schedule, in the machine's terms: if the buffers and the records hold the state after i bytes, then
 -- what each way through the loop does makes them hold the state after i + 1. By the effect of the turn that the step came to.
+use Rattle.std.specs.Prelude.{Option, Some, None}
 use mathlib.Core.Path.{◌≡◌, refl, sym, ap, ap₂, subst, ◌∙◌}
 use mathlib.Core.Bool.{Bool, true, false, cond, not}
 use mathlib.Core.Logic.{◌≢◌}
@@ -29,11 +30,8 @@ use Rattle.machine.specs.declared.Stage.TheVariants.{A3, A4, A5, A6, V1, V3, V4,
 use Rattle.machine.specs.declared.Kept.{Kept}
 use Rattle.machine.specs.declared.Answer.{Answer}
 use Rattle.machine.specs.declared.Answer.TheVariants.{False, True, Value, Was}
-use Rattle.machine.specs.declared.Maybe.{Maybe}
-use Rattle.machine.specs.declared.Maybe.TheVariants.{None, Is}
 use Rattle.machine.specs.declared.Status.{Status}
 use Rattle.machine.specs.declared.Status.TheVariants.{Down, Idle, N2, N3, Busy}
-use Rattle.machine.specs.declared.Opened.TheVariants.{Closed, Open}
 use Rattle.engine.specs.declared.Standing.{Standing}
 use Rattle.machine.specs.declared.Work.{Work}
 use Rattle.machine.specs.Turn.{Turn, Still, Quiet, Swaps, Logs, Loses, Replies}
@@ -323,10 +321,10 @@ module _ {rows : List Row} {P : ℕ} {from : Standing} {bytes words₀ log₀ an
     woke e x w = next wakes (rw e) ∙ ap (λ q. apply quiet (set S.processes me (waked q q.status)) S) mine ∙ ap (λ x. apply quiet (set S.processes me x) S) w
 
     -- a wake: of one that is down, with no row open and with one; of one that is awake
-    pub hold_wake_idle : byte / 16 ≡ 2 → r.status ≡ Down → r.opened ≡ Closed → Holding rows P from bytes words₀ log₀ answers₀ (i + 1) words log answers (set ps at (with_status Idle r)) m k
+    pub hold_wake_idle : byte / 16 ≡ 2 → r.status ≡ Down → r.opened ≡ None → Holding rows P from bytes words₀ log₀ answers₀ (i + 1) words log answers (set ps at (with_status Idle r)) m k
     hold_wake_idle e d o = by-set quiet (with_status Idle r) (woke e _ (ap (waked r) d ∙ ap (λ o. with_status (woken_up o) r) o)) (did_quiet q.log_room q.answers_room)
 
-    pub hold_wake_busy : byte / 16 ≡ 2 → r.status ≡ Down → (j : ℕ) → r.opened ≡ Open j → (st : Status) → st ≡ Busy V1 0 0 0 None
+    pub hold_wake_busy : byte / 16 ≡ 2 → r.status ≡ Down → (j : ℕ) → r.opened ≡ Some j → (st : Status) → st ≡ Busy V1 0 0 0 None
         → Holding rows P from bytes words₀ log₀ answers₀ (i + 1) words log answers (set ps at (with_status st r)) m k
     hold_wake_busy e d j o st is =
         by-set quiet (with_status st r) (woke e _ (ap (waked r) d ∙ ap (λ o. with_status (woken_up o) r) o ∙ ap (λ st. with_status st r) (sym is))) (did_quiet q.log_room q.answers_room)
@@ -366,13 +364,13 @@ module _ {rows : List Row} {P : ℕ} {from : Standing} {bytes words₀ log₀ an
       pub hold_record : (next : Process) → u ≡ Quiet next → Holding rows P from bytes words₀ log₀ answers₀ (i + 1) words log answers (set ps at next) m k
       hold_record next e = by-set quiet next (told (Quiet next) e) (did_quiet q.log_room q.answers_room)
 
-      pub hold_won : (next : Process) (x : ℕ) (says : Answer) (e : Entry) (words' log' : List ℕ) → u ≡ Swaps next x says → e ≡ entry t me K (Is says) → words' ≡ set words row.word x
+      pub hold_won : (next : Process) (x : ℕ) (says : Answer) (e : Entry) (words' log' : List ℕ) → u ≡ Swaps next x says → e ≡ entry t me K (Some says) → words' ≡ set words row.word x
           → length log' ≡ length log → log' ≡ infront (flat (insert e (rows_of m log))) log → Holding rows P from bytes words₀ log₀ answers₀ (i + 1) words' log' answers (set ps at next) (m + 1) k
       hold_won next x says e words' log' w en wrote kept put =
           by-set (swaps row.word x e) next (told (Swaps next x says) w ∙ ap (λ e. apply (swaps row.word x e) (set S.processes me next) S) (sym en))
           (did_log q.log_room q.answers_room (swaps row.word x e) words' log' (m + 1) wrote (λ l. refl) kept (sym (length-insert e (rows_of m log) ∙ ap (λ n. n + 1) (length-rows_of m log))) put)
 
-      pub hold_answer : (next : Process) (said : Maybe) (e : Entry) (answers' : List ℕ) → u ≡ Replies next said → e ≡ entry t me K said
+      pub hold_answer : (next : Process) (said : Option Answer) (e : Entry) (answers' : List ℕ) → u ≡ Replies next said → e ≡ entry t me K said
           → length answers' ≡ length answers → answers' ≡ infront (flat (rows_of k answers ++ (e ∷ []))) answers → Holding rows P from bytes words₀ log₀ answers₀ (i + 1) words log answers' (set ps at next) m (k + 1)
       hold_answer next said e answers' w en kept put =
           by-set (replies e) next (told (Replies next said) w ∙ ap (λ e. apply (replies e) (set S.processes me next) S) (sym en)) (did_reply q.log_room q.answers_room e answers' kept put)
@@ -388,13 +386,13 @@ module _ {rows : List Row} {P : ℕ} {from : Standing} {bytes words₀ log₀ an
           lost true = refl
           lost false = refl
 
-          go : (a : Maybe) → log_after (effect_of rows (rows_of m log) me t K row.word (storing row x w.seen w.read_at w.tried_at a)) (rows_of m log)
+          go : (a : Option Answer) → log_after (effect_of rows (rows_of m log) me t K row.word (storing row x w.seen w.read_at w.tried_at a)) (rows_of m log)
               ≡ log_after (effect_of rows (rows_of m log) me 0 K row.word (storing row nobody w.seen w.read_at w.tried_at a)) (rows_of m log)
           go None = refl
-          go (Is True) = refl
-          go (Is (Was v)) = refl
-          go (Is (Value v)) = refl
-          go (Is False) = lost (eqb (value w.seen) row.old)
+          go (Some True) = refl
+          go (Some (Was v)) = refl
+          go (Some (Value v)) = refl
+          go (Some False) = lost (eqb (value w.seen) row.old)
 
       -- it touches no word and no answer, and leaves the record x
       alone : (x : Process) (w : Work) → (let e = effect_of rows (rows_of m log) me t K row.word (storing row x w.seen w.read_at w.tried_at w.answer) in
@@ -407,13 +405,13 @@ module _ {rows : List Row} {P : ℕ} {from : Standing} {bytes words₀ log₀ an
           lost true = (refl, (λ l. refl), refl)
           lost false = (refl, (λ l. refl), refl)
 
-          go : (a : Maybe) → (let v = storing row x w.seen w.read_at w.tried_at a in let e = effect_of rows (rows_of m log) me t K row.word v in
+          go : (a : Option Answer) → (let v = storing row x w.seen w.read_at w.tried_at a in let e = effect_of rows (rows_of m log) me t K row.word v in
               (words_after e words ≡ words) × ((l : List Entry) → answers_after e l ≡ l) × (process_of r v ≡ x))
           go None = (refl, (λ l. refl), refl)
-          go (Is True) = (refl, (λ l. refl), refl)
-          go (Is (Was v)) = (refl, (λ l. refl), refl)
-          go (Is (Value v)) = (refl, (λ l. refl), refl)
-          go (Is False) = lost (eqb (value w.seen) row.old)
+          go (Some True) = (refl, (λ l. refl), refl)
+          go (Some (Was v)) = (refl, (λ l. refl), refl)
+          go (Some (Value v)) = (refl, (λ l. refl), refl)
+          go (Some False) = lost (eqb (value w.seen) row.old)
 
       pub hold_entered : (x : Process) (w : Work) (found : Row) (m' : ℕ) (log' : List ℕ) → u ≡ storing row x w.seen w.read_at w.tried_at w.answer → w.process ≡ me → w.row ≡ K → found ≡ row
           → length log' ≡ length log → Enters rows found log m w m' log' → Holding rows P from bytes words₀ log₀ answers₀ (i + 1) words log' answers (set ps at x) m' k
@@ -448,7 +446,7 @@ module _ {rows : List Row} {P : ℕ} {from : Standing} {bytes words₀ log₀ an
       at-N3 e f is x y = ap (step_turn row me t seen_now (first rows me) (count rows me) r) e ∙ ap Quiet (sym (y ∙ ap (λ (f : ℕ). started (f + r.begun) r) is))
 
       -- in the midst of work on row K, by the stage and its number
-      module _ {stage : Stage} {seen ra ta : ℕ} {answer : Maybe} (st : r.status ≡ Busy stage seen ra ta answer) (works : WorkOpen r.status r.opened) (number : ℕ) (numbers : number ≡ stage_number stage) where
+      module _ {stage : Stage} {seen ra ta : ℕ} {answer : Option Answer} (st : r.status ≡ Busy stage seen ra ta answer) (works : WorkOpen r.status r.opened) (number : ℕ) (numbers : number ≡ stage_number stage) where
         decided : u ≡ decide row me t seen_now r (stage_at number) seen ra ta answer
         unfolding step_turn_in
         decided =
@@ -477,7 +475,7 @@ module _ {rows : List Row} {P : ℕ} {from : Standing} {bytes words₀ log₀ an
         at-A3 e next s = decided_at 2 e ∙ ap (λ st. Quiet (with_checkpoint st true r)) (sym s)
 
         pub at_won : number ≡ 3 → (now : ℕ) → now ≡ seen_now → now ≡ seen → (kind : Kind) → kind ≡ kind_of row → (v : ℕ) → v ≡ value seen → (says : Answer) → says ≡ swap_says kind v
-            → (next : Status) → next ≡ Busy A5 seen ra t (Is says) → (found : Row) → found ≡ row → (mark : ℕ) → mark ≡ new_by_in width kind found.new v → (x : ℕ) → x ≡ swapped me mark seen
+            → (next : Status) → next ≡ Busy A5 seen ra t (Some says) → (found : Row) → found ≡ row → (mark : ℕ) → mark ≡ new_by_in width kind found.new v → (x : ℕ) → x ≡ swapped me mark seen
             → u ≡ Swaps (with_status next r) x says
         unfolding decide_in tried_in
         at_won e now n same kind is v g says a next s found f mark m x y =
@@ -507,13 +505,13 @@ module _ {rows : List Row} {P : ℕ} {from : Standing} {bytes words₀ log₀ an
             decided_at 8 e ∙ ap (λ st. Quiet (with_status st r))
             (sym (s ∙ ap₂ (λ to now. Busy to now ra ta answer) (g ∙ ap (λ now. cond (same_bit (bit me now) r.kept.bit) V4 V6) n) n))
 
-        pub at-V4 : number ≡ 9 → (kind : Kind) → kind ≡ kind_of row → (says : Answer) → says ≡ swap_says kind r.kept.value → (next : Status) → next ≡ Busy V5 seen ra ta answer → u ≡ Quiet (with_stored next (Is says) r)
+        pub at-V4 : number ≡ 9 → (kind : Kind) → kind ≡ kind_of row → (says : Answer) → says ≡ swap_says kind r.kept.value → (next : Status) → next ≡ Busy V5 seen ra ta answer → u ≡ Quiet (with_stored next (Some says) r)
         unfolding decide_in
         at-V4 e kind is says a next s =
-            decided_at 9 e ∙ ap₂ (λ st a. Quiet (with_stored st (Is a) r)) (sym s) (sym (a ∙ ap (λ kind. swap_says kind r.kept.value) is))
+            decided_at 9 e ∙ ap₂ (λ st a. Quiet (with_stored st (Some a) r)) (sym s) (sym (a ∙ ap (λ kind. swap_says kind r.kept.value) is))
 
         -- A6, V5 and V6
-        pub at_reply : number ≢ 0 → number ≢ 1 → number ≢ 2 → number ≢ 3 → number ≢ 4 → number ≢ 6 → number ≢ 7 → number ≢ 8 → number ≢ 9 → (said : Maybe) → said ≡ reply_at number answer r.stored
+        pub at_reply : number ≢ 0 → number ≢ 1 → number ≢ 2 → number ≢ 3 → number ≢ 4 → number ≢ 6 → number ≢ 7 → number ≢ 8 → number ≢ 9 → (said : Option Answer) → said ≡ reply_at number answer r.stored
             → u ≡ Replies (closed r) said
         unfolding decide_in
         at_reply n0 n1 n2 n3 n4 n6 n7 n8 n9 said s = go (eqb number 5) refl (eqb number 10) refl
@@ -521,7 +519,7 @@ module _ {rows : List Row} {P : ℕ} {from : Standing} {bytes words₀ log₀ an
             below : number < 12
             below = subst (λ (n : ℕ). n < 12) (sym numbers) (numbered stage).1
 
-            to_said : {a : Maybe} → reply_at number answer r.stored ≡ a → Replies (closed r) a ≡ Replies (closed r) said
+            to_said : {a : Option Answer} → reply_at number answer r.stored ≡ a → Replies (closed r) a ≡ Replies (closed r) said
             to_said e = ap (Replies (closed r)) (sym (s ∙ e))
 
             go : (a : Bool) → eqb number 5 ≡ a → (b : Bool) → eqb number 10 ≡ b → u ≡ Replies (closed r) said

@@ -1,5 +1,6 @@
 -- What is known in a turn of the loop of `run_bytes` (`AtByte`), and that each way through the turn makes the buffers and the records hold the state after
 -- one byte more: for each way the step that Loop.antt names, with the row, the word and the kind that the code reads of the open row.
+use Rattle.std.specs.Prelude.{Option, Some, None}
 use mathlib.Core.Path.{◌≡◌, refl, sym, ap, subst, ◌∙◌}
 use mathlib.Core.Logic.{◌≢◌}
 use mathlib.Core.List.{List, [], ◌∷◌, ◌++◌}
@@ -24,9 +25,6 @@ use Rattle.machine.specs.declared.Stage.{Stage}
 use Rattle.machine.specs.declared.Stage.TheVariants.{A3, A4, A5, A6, V1, V3, V4, V5, V6}
 use Rattle.machine.specs.declared.Kept.{Kept}
 use Rattle.machine.specs.declared.Answer.{Answer}
-use Rattle.machine.specs.declared.Maybe.{Maybe}
-use Rattle.machine.specs.declared.Maybe.TheVariants.{None, Is}
-use Rattle.machine.specs.declared.Opened.TheVariants.{Closed, Open}
 use Rattle.machine.specs.declared.Status.{Status}
 use Rattle.machine.specs.declared.Status.TheVariants.{Down, Idle, N2, N3, Busy}
 use Rattle.machine.specs.Stages.{stage_number}
@@ -109,10 +107,10 @@ module _ {part : Part} {table schedule words₀ log₀ answers₀ counts firsts 
   pub crash : byte / 16 ≡ 1 → Next words log answers (set ps at (crashed r)) m k
   crash e = hold_crash b.holds meets (omega arith) b.here e
 
-  pub wake_idle : byte / 16 ≡ 2 → r.status ≡ Down → r.opened ≡ Closed → Next words log answers (set ps at (with_status Idle r)) m k
+  pub wake_idle : byte / 16 ≡ 2 → r.status ≡ Down → r.opened ≡ None → Next words log answers (set ps at (with_status Idle r)) m k
   wake_idle e d o = hold_wake_idle b.holds meets (omega arith) b.here e d o
 
-  pub wake_busy : byte / 16 ≡ 2 → r.status ≡ Down → {j : ℕ} → r.opened ≡ Open j → {st : Status} → st ≡ Busy V1 0 0 0 None → Next words log answers (set ps at (with_status st r)) m k
+  pub wake_busy : byte / 16 ≡ 2 → r.status ≡ Down → {j : ℕ} → r.opened ≡ Some j → {st : Status} → st ≡ Busy V1 0 0 0 None → Next words log answers (set ps at (with_status st r)) m k
   wake_busy e d {j} o {st} s = hold_wake_busy b.holds meets (omega arith) b.here e d j o st s
 
   pub wake_awake : byte / 16 ≡ 2 → r.status ≢ Down → Next words log answers ps m k
@@ -161,7 +159,7 @@ module _ {part : Part} {table schedule words₀ log₀ answers₀ counts firsts 
     third s {x} y = hold_record b.holds meets low b.here is _ (at-N3 b.holds meets low b.here is s _ firsts_are x y)
 
     -- in the midst of work a row is open, and it is in the file: its number, as it is read from the table
-    module _ {stage : Stage} {seen ra ta : ℕ} {answer : Maybe} (st : r.status ≡ Busy stage seen ra ta answer) {number : ℕ} (row_no : number ≡ row_open r.opened) where
+    module _ {stage : Stage} {seen ra ta : ℕ} {answer : Option Answer} (st : r.status ≡ Busy stage seen ra ta answer) {number : ℕ} (row_no : number ≡ row_open r.opened) where
       abbrev K : ℕ
       K = row_open r.opened
 
@@ -212,14 +210,14 @@ module _ {part : Part} {table schedule words₀ log₀ answers₀ counts firsts 
         -- A4: the swap with its log row, or lost
         pub won : shown ≡ 3 → {found : Row} → found ≡ row_of_table part.stride table index → {kind : Kind} → kind ≡ kind_of found
             → {now : ℕ} → now ≡ get_or words (row_of_table part.stride table index).word 0 → now ≡ seen → {v : ℕ} → v ≡ value seen → {says : Answer} → says ≡ swap_says kind v
-            → {next : Status} → next ≡ Busy A5 seen ra t (Is says) → {mark : ℕ} → mark ≡ new_by_in width kind found.new v → {x : ℕ} → x ≡ swapped me mark seen
-            → {words' : List ℕ} → words' ≡ set words (row_of_table part.stride table index).word x → {e : Entry} → e ≡ entry t me number (Is says)
+            → {next : Status} → next ≡ Busy A5 seen ra t (Some says) → {mark : ℕ} → mark ≡ new_by_in width kind found.new v → {x : ℕ} → x ≡ swapped me mark seen
+            → {words' : List ℕ} → words' ≡ set words (row_of_table part.stride table index).word x → {e : Entry} → e ≡ entry t me number (Some says)
             → {log' : List ℕ} → length log' ≡ length log → log' ≡ infront (flat (insert e (rows_of m log))) log
             → Next words' log' answers (set ps at (with_status next r)) (m + 1) k
         won e3 f g n same v {says = said} says s mark {x = new} x wrote en kept put =
             hold_won b.holds meets low b.here is _ _ _ _ _ _
             (at_won b.holds meets low b.here is st busy_is shown numbers e3 _ (word_found n) same _ (kind_found f g) _ v _ says _ s _ (row_found f) _ mark _ x)
-            (en ∙ ap (λ (k : ℕ). entry t me k (Is said)) row_no)
+            (en ∙ ap (λ (k : ℕ). entry t me k (Some said)) row_no)
             (wrote ∙ ap (λ (row : Row). set words row.word new) (row_found refl))
             kept
             put
@@ -246,11 +244,11 @@ module _ {part : Part} {table schedule words₀ log₀ answers₀ counts firsts 
         by_bit e n g s = hold_record b.holds meets low b.here is _ (at-V3 b.holds meets low b.here is st busy_is shown numbers e _ (word_found n) _ g _ s)
 
         pub says_kept : shown ≡ 9 → {found : Row} → found ≡ row_of_table part.stride table index → {kind : Kind} → kind ≡ kind_of found → {says : Answer} → says ≡ swap_says kind r.kept.value
-            → {next : Status} → next ≡ Busy V5 seen ra ta answer → Next words log answers (set ps at (with_stored next (Is says) r)) m k
+            → {next : Status} → next ≡ Busy V5 seen ra ta answer → Next words log answers (set ps at (with_stored next (Some says) r)) m k
         says_kept e f g a s = hold_record b.holds meets low b.here is _ (at-V4 b.holds meets low b.here is st busy_is shown numbers e _ (kind_found f g) _ a _ s)
 
         -- A6, V5 and V6, with the answer row
-        pub replied : shown ≢ 0 → shown ≢ 1 → shown ≢ 2 → shown ≢ 3 → shown ≢ 4 → shown ≢ 6 → shown ≢ 7 → shown ≢ 8 → shown ≢ 9 → {said : Maybe} → said ≡ reply_at shown answer r.stored
+        pub replied : shown ≢ 0 → shown ≢ 1 → shown ≢ 2 → shown ≢ 3 → shown ≢ 4 → shown ≢ 6 → shown ≢ 7 → shown ≢ 8 → shown ≢ 9 → {said : Option Answer} → said ≡ reply_at shown answer r.stored
             → {e : Entry} → e ≡ entry t me number said → {answers' : List ℕ} → length answers' ≡ length answers → answers' ≡ infront (flat (rows_of k answers ++ (e ∷ []))) answers
             → Next words log answers' (set ps at (closed r)) m (k + 1)
         replied n0 n1 n2 n3 n4 n6 n7 n8 n9 {said = told} s en kept put =

@@ -6,9 +6,9 @@
 ghost use Rattle.engine.specs.Part.{Runnable, Runs};
 
 use machine::{
-    Maybe, Opened, Process, Stage, Status, Work, after_loss, after_read, busy, by_bit,
-    by_checkpoint, crash_first, enter, entry_of, keep, open_row, put_in, recovered_of, reply_of,
-    stage_number, start, store_word, swap_says, word_now,
+    Process, Stage, Status, Work, after_loss, after_read, busy, by_bit, by_checkpoint, crash_first,
+    enter, entry_of, keep, open_row, put_in, recovered_of, reply_of, stage_number, start,
+    store_word, swap_says, word_now,
 };
 
 // Where a run stands: the records, of which the first P are processes, the position of the next byte, and how many
@@ -77,7 +77,7 @@ pub fn run_bytes(
                         if process.begun < counts[at] {
                             processes[at] = Process {
                                 status: Status::N2,
-                                stored: Maybe::None,
+                                stored: None,
                                 ..process
                             };
                         }
@@ -145,7 +145,7 @@ pub fn run_bytes(
                                 let now = word_now(table, stride, k, words);
                                 if now == seen {
                                     let found = word::value_of(seen);
-                                    let yes = Maybe::Is(swap_says(kind, found));
+                                    let yes = Some(swap_says(kind, found));
                                     let status = busy(Stage::A5, seen, read_at, position, yes);
                                     processes[at] = Process { status, ..process };
                                     let mark = put_in(kind, operation.new, found);
@@ -204,7 +204,7 @@ pub fn run_bytes(
                                 let operation = runfile::row_at(table, stride, k);
                                 let kind = runfile::kind_of(operation);
                                 let kept = process.kept;
-                                let stored = Maybe::Is(swap_says(kind, kept.value));
+                                let stored = Some(swap_says(kind, kept.value));
                                 processes[at] = Process {
                                     status,
                                     stored,
@@ -217,7 +217,7 @@ pub fn run_bytes(
                                 let said = reply_of(number, answer, stored);
                                 processes[at] = Process {
                                     status: Status::Idle,
-                                    opened: Opened::Closed,
+                                    opened: None,
                                     ..process
                                 };
                                 let reply = entry_of(position as u32, me, row, said);
@@ -244,14 +244,14 @@ pub fn run_bytes(
                     let process = processes[at];
                     let opened = process.opened;
                     match opened {
-                        Opened::Closed => {
+                        None => {
                             processes[at] = Process {
                                 status: Status::Idle,
                                 ..process
                             };
                         }
-                        Opened::Open(_) => {
-                            let status = busy(Stage::V1, 0, 0, 0, Maybe::None);
+                        Some(_) => {
+                            let status = busy(Stage::V1, 0, 0, 0, None);
                             processes[at] = Process { status, ..process };
                         }
                     }

@@ -1,7 +1,7 @@
 -- The flip bits over a whole schedule: bit q of a word is turned as often as process q changes the word, which is as often as the log tells of a
 -- successful swap of q on it, and by nothing else. From what one byte may write: nothing, or a swap by the process that it names, which has a row open.
 use Prim.Native.Nat.{ℕ, zero, suc, ◌^◌, ◌≤◌, ◌<◌}
-use Rattle.std.specs.Prelude.{◌≡◌, Bool, not, ◌&&◌, ltb, length, get_or, set, take, drop}
+use Rattle.std.specs.Prelude.{◌≡◌, Bool, not, ◌&&◌, ltb, length, get_or, set, take, drop, Option, Some, None, ℕ}
 use Rattle.std.proofs.Math.Path.{refl, ap}
 use Rattle.std.proofs.Common.{sym, ◌∙◌, ap₂, subst, true≢false, take-append-drop, length-set, get_or-set_same, get_or-set_other, eqb-true, eq-eqb, ne_eqb, ltb-true, ltb-false}
 use Rattle.std.proofs.Math.Bool.{true, false, cond}
@@ -25,10 +25,6 @@ use Rattle.machine.specs.declared.Stage.{Stage}
 use Rattle.machine.specs.declared.Stage.TheVariants.{A1, A2, A3, A4, A5, A6, V1, V2, V3, V4, V5, V6}
 use Rattle.machine.specs.declared.Answer.{Answer}
 use Rattle.machine.specs.declared.Answer.TheVariants.{False}
-use Rattle.machine.specs.declared.Maybe.{Maybe}
-use Rattle.machine.specs.declared.Maybe.TheVariants.{None, Is}
-use Rattle.machine.specs.declared.Opened.{Opened}
-use Rattle.machine.specs.declared.Opened.TheVariants.{Closed, Open}
 use Rattle.machine.specs.declared.Status.{Status}
 use Rattle.machine.specs.declared.Status.TheVariants.{Down, Idle, N2, N3, Busy}
 use Rattle.machine.specs.Records.{fresh, with_stored, row_open}
@@ -46,14 +42,14 @@ module _ (rows : List Row) (p t : ℕ) (words : List ℕ) (log : List Entry) (r 
   Left k u = let f = effect_of rows log p t k (row_numbered rows k).word u in Leaves rows p r words log (words_after f words) (log_after f log)
 
   -- A4: the word is as it was read, and is swapped; or it is not
-  tries : (k : ℕ) → r.opened ≡ Open k → (seen : ℕ) (won lost : Process) (says : Answer) → is_swapped (spoken (Is says)) ≡ true
+  tries : (k : ℕ) → r.opened ≡ Some k → (seen : ℕ) (won lost : Process) (says : Answer) → is_swapped (spoken (Some says)) ≡ true
       → (c : Bool) → eqb (get_or words (row_numbered rows k).word 0) seen ≡ c → Left k (cond c (Swaps won (swapped p (new_of (row_numbered rows k) (value seen)) seen) says) (Quiet lost))
   tries k o seen won lost says truly true e =
-      subst (λ x. Leaves rows p r words log (set words (row_numbered rows k).word (swapped p (new_of (row_numbered rows k) (value x)) x)) (insert (entry t p k (Is says)) log))
-      (eqb-true (get_or words (row_numbered rows k).word 0) seen e) (one_swapped k (entry t p k (Is says)) o refl refl truly)
+      subst (λ x. Leaves rows p r words log (set words (row_numbered rows k).word (swapped p (new_of (row_numbered rows k) (value x)) x)) (insert (entry t p k (Some says)) log))
+      (eqb-true (get_or words (row_numbered rows k).word 0) seen e) (one_swapped k (entry t p k (Some says)) o refl refl truly)
   tries k o seen won lost says truly false e = as_they_were
 
-  at_work_lem : (k : ℕ) → r.opened ≡ Open k → (stage : Stage) (seen read_at tried_at : ℕ) (answer : Maybe)
+  at_work_lem : (k : ℕ) → r.opened ≡ Some k → (stage : Stage) (seen read_at tried_at : ℕ) (answer : Option Answer)
       → Left k (decide (row_numbered rows k) p t (get_or words (row_numbered rows k).word 0) r stage seen read_at tried_at answer)
   unfolding decide_in tried_in is_swapped spoken
   at_work_lem k o A1 seen read_at tried_at answer = as_they_were
@@ -62,8 +58,8 @@ module _ (rows : List Row) (p t : ℕ) (words : List ℕ) (log : List Entry) (r 
   at_work_lem k o A4 seen read_at tried_at answer =
       tries k o seen _ _ _ (says-swapped (kind_of (row_numbered rows k)) (value seen)) (eqb (get_or words (row_numbered rows k).word 0) seen) refl
   at_work_lem k o A5 seen read_at tried_at answer =
-      stored_leads (Left k) (row_numbered rows k) _ seen read_at tried_at answer as_they_were (λ a e. one_logged (entry read_at p k (Is a)) e)
-      (one_logged (entry (first_swap rows (row_numbered rows k).word read_at tried_at log) p k (Is False)) refl)
+      stored_leads (Left k) (row_numbered rows k) _ seen read_at tried_at answer as_they_were (λ a e. one_logged (entry read_at p k (Some a)) e)
+      (one_logged (entry (first_swap rows (row_numbered rows k).word read_at tried_at log) p k (Some False)) refl)
   at_work_lem k o A6 seen read_at tried_at answer = as_they_were
   at_work_lem k o V1 seen read_at tried_at answer = as_they_were
   at_work_lem k o V2 seen read_at tried_at answer = as_they_were
@@ -82,9 +78,9 @@ module _ (rows : List Row) (p t : ℕ) (words : List ℕ) (log : List Entry) (r 
       now : ℕ
       now = get_or words (row_numbered rows k).word 0
 
-      work : (o : Opened) → r.opened ≡ o → (stage : Stage) (seen read_at tried_at : ℕ) (answer : Maybe) → Left k (at_work (row_numbered rows k) p t now r o stage seen read_at tried_at answer)
-      work Closed q stage seen read_at tried_at answer = as_they_were
-      work (Open j) q stage seen read_at tried_at answer = at_work_lem k (q ∙ ap Open (sym (ap row_open q))) stage seen read_at tried_at answer
+      work : (o : Option ℕ) → r.opened ≡ o → (stage : Stage) (seen read_at tried_at : ℕ) (answer : Option Answer) → Left k (at_work (row_numbered rows k) p t now r o stage seen read_at tried_at answer)
+      work None q stage seen read_at tried_at answer = as_they_were
+      work (Some j) q stage seen read_at tried_at answer = at_work_lem k (q ∙ ap Some (sym (ap row_open q))) stage seen read_at tried_at answer
 
       go : (status : Status) → Left k (step_turn (row_numbered rows k) p t now (first rows p) (count rows p) r status)
       go Down = as_they_were
@@ -175,7 +171,7 @@ module _ (rows : List Row) (q w : ℕ) where
   unfolding proc_at
   absent_byte t byte s h = go (eqb (named byte) q) refl
     where
-      shut : {k : ℕ} → named byte ≡ q → (proc_at (named byte) s).opened ≡ Open k → ⊥
+      shut : {k : ℕ} → named byte ≡ q → (proc_at (named byte) s).opened ≡ Some k → ⊥
       shut e o = closed_open (sym (ap (λ (r : Process). r.opened) (ap (λ p. proc_at p s) e ∙ get_or-eq_default s.processes fresh h)) ∙ o)
 
       kept : named byte ≡ q → (words' : List ℕ) (log' : List Entry) → Leaves rows (named byte) (proc_at (named byte) s) s.words s.log words' log' → not (eqb (word_at w s) (get_or words' w 0)) ≡ false

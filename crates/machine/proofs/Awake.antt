@@ -1,6 +1,6 @@
 -- Who is up by the bytes alone (R75) is who is awake in the machine, after any bytes from the start: one byte does to the one what it does to the other.
 -- So a crash of one that is up and a wake of one that is down strike its record.
-use Rattle.std.specs.Prelude.{ℕ, suc, ◌<◌, ◌≡◌, true, false, ◌↔◌, eqb, length, get_or, set, take}
+use Rattle.std.specs.Prelude.{ℕ, suc, ◌<◌, ◌≡◌, true, false, ◌↔◌, eqb, length, get_or, set, take, Option, Some, None}
 use Rattle.std.proofs.Math.Path.{refl, ap}
 use Rattle.std.proofs.Common.{sym, ◌∙◌, subst, true≢false, get_or-set_same, get_or-set_other, eqb-true, eq-eqb}
 use Rattle.std.proofs.Math.Bool.{Bool}
@@ -13,8 +13,6 @@ use Rattle.runfile.specs.Ups.{up_as, up_by, up_from, is_up, up_next}
 use Rattle.runfile.specs.Lawful.{NotIdle}
 use Rattle.rows.specs.declared.Entry.{Entry}
 use Rattle.machine.specs.declared.Process.{Process}
-use Rattle.machine.specs.declared.Opened.{Opened}
-use Rattle.machine.specs.declared.Opened.TheVariants.{Closed, Open}
 use Rattle.machine.specs.declared.Status.{Status}
 use Rattle.machine.specs.declared.Status.TheVariants.{Down, Idle, N2, N3, Busy}
 use Rattle.machine.specs.Records.{fresh, InWork, is_awake, waked, woken_up}
@@ -60,9 +58,9 @@ awake-turn rows p t words log r = go (is_awake r.status) refl
 awake-waked : (r : Process) (status : Status) → r.status ≡ status → is_awake (waked r status).status ≡ true
 awake-waked r Down e = go r.opened
   where
-    go : (o : Opened) → is_awake (woken_up o) ≡ true
-    go Closed = refl
-    go (Open k) = refl
+    go : (o : Option ℕ) → is_awake (woken_up o) ≡ true
+    go None = refl
+    go (Some k) = refl
 awake-waked r Idle e = ap is_awake e
 awake-waked r N2 e = ap is_awake e
 awake-waked r N3 e = ap is_awake e

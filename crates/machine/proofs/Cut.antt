@@ -1,7 +1,7 @@
 -- The announcement that is cut off is made again, and for the same row (R105): a process with no row open has none until it has begun one more, and the
 -- byte at which it has opens the row that follows. By cases of what one byte may make of a record.
 use Prim.Native.Nat.{ℕ, zero, suc, ◌+◌, ◌≤◌, ◌<◌}
-use Rattle.std.specs.Prelude.{◌≡◌, Bool, false, eqb, ltb, set}
+use Rattle.std.specs.Prelude.{◌≡◌, Bool, false, eqb, ltb, set, Option, Some, None, ℕ}
 use Rattle.std.proofs.Math.Path.{refl, sym, subst}
 use Rattle.std.proofs.Common.{◌∙◌, ap, true≢false, get_or-set_same, eqb-true}
 use Rattle.std.proofs.Math.Bool.{true}
@@ -16,13 +16,10 @@ use Rattle.runfile.specs.Actions.{Action, step as steps, crash as crashes, wake 
 use Rattle.runfile.specs.Kinds.{kind_of}
 use Rattle.runfile.specs.Operations.{row_numbered, first, count}
 use Rattle.rows.specs.declared.Entry.{Entry}
+use Rattle.machine.specs.declared.Answer.{Answer}
 use Rattle.machine.specs.declared.Process.{Process}
 use Rattle.machine.specs.declared.Stage.{Stage}
 use Rattle.machine.specs.declared.Stage.TheVariants.{A1, A2, A3, A4, A5, A6, V1, V2, V3, V4, V5, V6}
-use Rattle.machine.specs.declared.Maybe.{Maybe}
-use Rattle.machine.specs.declared.Maybe.TheVariants.{None}
-use Rattle.machine.specs.declared.Opened.{Opened}
-use Rattle.machine.specs.declared.Opened.TheVariants.{Closed, Open}
 use Rattle.machine.specs.declared.Status.{Status}
 use Rattle.machine.specs.declared.Status.TheVariants.{Down, Idle, N2, N3, Busy}
 use Rattle.machine.specs.Records.{fresh, with_status, with_stored, crashed, waked, woken_up, row_open}
@@ -83,11 +80,11 @@ module _ (rows : List Row) (p : ℕ) where
 
   -- the byte at which p has begun another row opens the row that follows those that it had begun, in whatever state
   pub opens_next : (t byte : ℕ) (s : State) → ((proc_at p (step rows t byte s)).begun ≡ (proc_at p s).begun → ⊥)
-      → ((proc_at p (step rows t byte s)).begun ≡ suc (proc_at p s).begun) × ((proc_at p (step rows t byte s)).opened ≡ Open (first rows p + (proc_at p s).begun))
+      → ((proc_at p (step rows t byte s)).begun ≡ suc (proc_at p s).begun) × ((proc_at p (step rows t byte s)).opened ≡ Some (first rows p + (proc_at p s).begun))
   opens_next t byte s n = go (begins-at t byte s)
     where
       go : Begins rows p (proc_at p s) (proc_at p (step rows t byte s))
-          → ((proc_at p (step rows t byte s)).begun ≡ suc (proc_at p s).begun) × ((proc_at p (step rows t byte s)).opened ≡ Open (first rows p + (proc_at p s).begun))
+          → ((proc_at p (step rows t byte s)).begun ≡ suc (proc_at p s).begun) × ((proc_at p (step rows t byte s)).opened ≡ Some (first rows p + (proc_at p s).begun))
       go (begins_none b o) = absurd (n b)
       go (begins_one b o) = (b, o)
 
@@ -102,17 +99,17 @@ module _ (rows : List Row) (p : ℕ) where
       go (begins_one b o) l = omega arith
 
   -- with no row open, none is until another has begun, whatever the bytes are
-  pub shut_until : (t : ℕ) (bytes : List ℕ) (s : State) → (proc_at p s).opened ≡ Closed → (proc_at p (after rows t bytes s)).begun ≡ (proc_at p s).begun → (proc_at p (after rows t bytes s)).opened ≡ Closed
+  pub shut_until : (t : ℕ) (bytes : List ℕ) (s : State) → (proc_at p s).opened ≡ None → (proc_at p (after rows t bytes s)).begun ≡ (proc_at p s).begun → (proc_at p (after rows t bytes s)).opened ≡ None
   unfolding after_in
   shut_until t [] s o e = o
   shut_until t (byte ∷ bytes) s o e = go (begins-at t byte s) (begun_grows (suc t) bytes (step rows t byte s)) e (shut_until (suc t) bytes (step rows t byte s))
     where
       go : Begins rows p (proc_at p s) (proc_at p (step rows t byte s)) → {n : ℕ} → (proc_at p (step rows t byte s)).begun ≤ n → n ≡ (proc_at p s).begun → {A : Type 0}
-          → ((proc_at p (step rows t byte s)).opened ≡ Closed → n ≡ (proc_at p (step rows t byte s)).begun → A) → A
+          → ((proc_at p (step rows t byte s)).opened ≡ None → n ≡ (proc_at p (step rows t byte s)).begun → A) → A
       go (begins_none b c) l e next = next (c o) (e ∙ sym b)
       go (begins_one b c) l e next = absurd (omega arith)
 
-shut_work : (row : Row) (p t now : ℕ) (r : Process) (stage : Stage) (seen read_at tried_at : ℕ) (answer : Maybe) → Shut (process_of r (decide row p t now r stage seen read_at tried_at answer))
+shut_work : (row : Row) (p t now : ℕ) (r : Process) (stage : Stage) (seen read_at tried_at : ℕ) (answer : Option Answer) → Shut (process_of r (decide row p t now r stage seen read_at tried_at answer))
 unfolding decide_in
 shut_work row p t now r A1 seen read_at tried_at answer = read_leads (λ st. Shut (with_status st r)) row now t (λ x. absurd x) (λ a x. absurd x)
 shut_work row p t now r A2 seen read_at tried_at answer = λ x. absurd x
@@ -134,9 +131,9 @@ module _ (rows : List Row) where
   unfolding turn_in step_turn_in
   shut_turn p t words log r h = go r.status refl
     where
-      work : (o : Opened) (row : Row) (now : ℕ) (stage : Stage) (seen read_at tried_at : ℕ) (answer : Maybe) → Shut (process_of r (at_work row p t now r o stage seen read_at tried_at answer))
-      work Closed row now stage seen read_at tried_at answer = h
-      work (Open k) row now stage seen read_at tried_at answer = shut_work row p t now r stage seen read_at tried_at answer
+      work : (o : Option ℕ) (row : Row) (now : ℕ) (stage : Stage) (seen read_at tried_at : ℕ) (answer : Option Answer) → Shut (process_of r (at_work row p t now r o stage seen read_at tried_at answer))
+      work None row now stage seen read_at tried_at answer = h
+      work (Some k) row now stage seen read_at tried_at answer = shut_work row p t now r stage seen read_at tried_at answer
 
       go : (status : Status) → r.status ≡ status → Shut (process_of r (step_turn (row_numbered rows (row_open r.opened)) p t (get_or words (row_numbered rows (row_open r.opened)).word 0) (first rows p) (count rows p) r status))
       go Down e = h
@@ -148,9 +145,9 @@ module _ (rows : List Row) where
   shut_waked : (r : Process) (status : Status) → Shut r → Shut (waked r status)
   shut_waked r Down h = go r.opened refl
     where
-      go : (o : Opened) → r.opened ≡ o → Unopened (woken_up o) → r.opened ≡ Closed
-      go Closed q x = q
-      go (Open k) q x = absurd x
+      go : (o : Option ℕ) → r.opened ≡ o → Unopened (woken_up o) → r.opened ≡ None
+      go None q x = q
+      go (Some k) q x = absurd x
   shut_waked r Idle h = h
   shut_waked r N2 h = h
   shut_waked r N3 h = h
@@ -258,7 +255,7 @@ module _ (rows : List Row) (words : List ℕ) (P : ℕ) (schedule : List ℕ) (p
     unfolding after_in
     woken_is = after_join rows t a (crash ∷ (b ++ (wake ∷ []))) s ∙ after_snoc rows (suc (t + length a)) b wake fallen
 
-    shut_at_cut : (proc_at p at_cut).opened ≡ Closed
+    shut_at_cut : (proc_at p at_cut).opened ≡ None
     shut_at_cut = shut_until rows p t a s (shut rows P words schedule p before) none
 
     fallen_is : proc_at p fallen ≡ crashed (proc_at p at_cut)
@@ -278,15 +275,15 @@ module _ (rows : List Row) (words : List ℕ) (P : ℕ) (schedule : List ℕ) (p
     again : Again rows p (proc_at p s).begun (proc_at p at_cut) woken
     again =
         let begun : (proc_at p woken).begun ≡ (proc_at p s).begun = ap (λ (r : Process). r.begun) idle ∙ none in
-        let shut : (proc_at p woken).opened ≡ Closed = ap (λ (r : Process). r.opened) idle ∙ shut_at_cut in
+        let shut : (proc_at p woken).opened ≡ None = ap (λ (r : Process). r.opened) idle ∙ shut_at_cut in
         record {
           no_row = shut_at_cut;
           wakes_idle = idle;
           begun = begun;
           none_open = λ u bytes e. shut_until rows p u bytes woken shut (e ∙ sym begun);
           opens = λ u bytes byte e n.
-              subst (λ (x : State). ((proc_at p x).begun ≡ suc (proc_at p s).begun) × ((proc_at p x).opened ≡ Open (first rows p + (proc_at p s).begun))) (sym (after_snoc rows u bytes byte woken))
-              (subst (λ m. ((proc_at p (step rows (u + length bytes) byte (after rows u bytes woken))).begun ≡ suc m) × ((proc_at p (step rows (u + length bytes) byte (after rows u bytes woken))).opened ≡ Open (first rows p + m))) e
+              subst (λ (x : State). ((proc_at p x).begun ≡ suc (proc_at p s).begun) × ((proc_at p x).opened ≡ Some (first rows p + (proc_at p s).begun))) (sym (after_snoc rows u bytes byte woken))
+              (subst (λ m. ((proc_at p (step rows (u + length bytes) byte (after rows u bytes woken))).begun ≡ suc m) × ((proc_at p (step rows (u + length bytes) byte (after rows u bytes woken))).opened ≡ Some (first rows p + m))) e
               (opens_next rows p (u + length bytes) byte (after rows u bytes woken) (λ same. n (ap (λ (x : State). (proc_at p x).begun) (after_snoc rows u bytes byte woken) ∙ same ∙ e))));
         }
 

@@ -1,6 +1,6 @@
 -- What a process keeps, byte by byte and through whatever bytes: its kept value stays until it makes A2 of an advance, and its kept bit until it makes any
 -- A2. By cases of what one byte may make of a record.
-use Rattle.std.specs.Prelude.{ℕ, zero, suc, ◌≤◌, ◌≡◌, Bool, not, ◌&&◌, eqb, ltb, length, get_or, set}
+use Rattle.std.specs.Prelude.{ℕ, zero, suc, ◌≤◌, ◌≡◌, Bool, not, ◌&&◌, eqb, ltb, length, get_or, set, Option, Some, None}
 use Rattle.std.proofs.Math.Path.{refl, ap}
 use Rattle.std.proofs.Common.{sym, ◌∙◌, ap₂, subst, true≢false, ⊎_elim, get_or-set_same, get_or-set_other, eqb-true, ltb-true, ltb-false}
 use Rattle.std.proofs.Math.Bool.{true, false, cond}
@@ -16,14 +16,11 @@ use Rattle.runfile.specs.Actions.{Action, step as steps, crash as crashes, wake 
 use Rattle.runfile.specs.Operations.{row_numbered, count}
 use Rattle.word.specs.Word.{value, bit}
 use Rattle.rows.specs.declared.Entry.{Entry}
+use Rattle.machine.specs.declared.Answer.{Answer}
 use Rattle.machine.specs.declared.Process.{Process}
 use Rattle.machine.specs.declared.Kept.{Kept}
 use Rattle.machine.specs.declared.Stage.{Stage}
 use Rattle.machine.specs.declared.Stage.TheVariants.{A1, A2, A3, A4, A5, A6, V1, V2, V3, V4, V5, V6}
-use Rattle.machine.specs.declared.Maybe.{Maybe}
-use Rattle.machine.specs.declared.Maybe.TheVariants.{None}
-use Rattle.machine.specs.declared.Opened.{Opened}
-use Rattle.machine.specs.declared.Opened.TheVariants.{Closed, Open}
 use Rattle.machine.specs.declared.Status.{Status}
 use Rattle.machine.specs.declared.Status.TheVariants.{Down, Idle, N2, N3, Busy}
 use Rattle.machine.specs.Turn.{Still, Quiet}
@@ -37,7 +34,7 @@ use Rattle.machine.specs.Limits.{step_of, none_more}
 use Rattle.machine.specs.Keeping.{at_a2, in_hand, kind_at, kept_anew, keeps_at, advances, keeps_sort, keepings}
 
 -- a step at each stage, and at whatever status
-at_stage : (row : Row) (p t now : ℕ) (r : Process) (stage : Stage) (seen read_at tried_at : ℕ) (answer : Maybe)
+at_stage : (row : Row) (p t now : ℕ) (r : Process) (stage : Stage) (seen read_at tried_at : ℕ) (answer : Option Answer)
     → (process_of r (decide row p t now r stage seen read_at tried_at answer)).kept ≡ cond (eqb (stage_number stage) 1) (kept_by (kind_of row) r.kept (not (bit p seen)) (value seen)) r.kept
 unfolding decide_in
 at_stage row p t now r A1 seen read_at tried_at answer = refl
@@ -68,10 +65,10 @@ kept_turn rows p t words log r = go r.status
     anew : ℕ → Kept
     anew seen = kept_by (kind_of row) r.kept (not (bit p seen)) (value seen)
 
-    work : (o : Opened) (stage : Stage) (seen read_at tried_at : ℕ) (answer : Maybe)
+    work : (o : Option ℕ) (stage : Stage) (seen read_at tried_at : ℕ) (answer : Option Answer)
         → (process_of r (at_work row p t now r o stage seen read_at tried_at answer)).kept ≡ cond (at_a2 (Busy stage seen read_at tried_at answer) o) (anew seen) r.kept
-    work Closed stage seen read_at tried_at answer = refl
-    work (Open k) stage seen read_at tried_at answer = at_stage row p t now r stage seen read_at tried_at answer
+    work None stage seen read_at tried_at answer = refl
+    work (Some k) stage seen read_at tried_at answer = at_stage row p t now r stage seen read_at tried_at answer
 
     go : (status : Status) → (turn rows p t words log r status).process.kept ≡ cond (at_a2 status r.opened) (anew (in_hand status)) r.kept
     go Down = refl
@@ -128,7 +125,7 @@ module _ (rows : List Row) (t byte : ℕ) (s : State) (p : ℕ) where
   others_leave e = kept_byte rows t byte s p ∙ rw e
 
   -- a step of p at A2 of row k
-  module _ (k seen read_at tried_at : ℕ) (answer : Maybe) (own : step_of p (action byte) (named byte) ≡ true) (st : (proc_at p s).status ≡ Busy A2 seen read_at tried_at answer) (o : (proc_at p s).opened ≡ Open k) where
+  module _ (k seen read_at tried_at : ℕ) (answer : Option Answer) (own : step_of p (action byte) (named byte) ≡ true) (st : (proc_at p s).status ≡ Busy A2 seen read_at tried_at answer) (o : (proc_at p s).opened ≡ Some k) where
     keeps_by : (proc_at p (step rows t byte s)).kept ≡ kept_by (kind_of (row_numbered rows k)) (proc_at p s).kept (not (bit p seen)) (value seen)
     keeps_by = kept_byte rows t byte s p ∙ rw (own, st, o)
 

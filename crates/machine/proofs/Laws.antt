@@ -1,5 +1,5 @@
 -- What a step may make of a record, carried over a schedule: what steps, crashes and wakes keep goes on to hold; and so an open row is a row of the file.
-use Rattle.std.specs.Prelude.{ℕ, suc, ◌+◌, ◌<◌, ◌≡◌}
+use Rattle.std.specs.Prelude.{ℕ, suc, ◌+◌, ◌<◌, ◌≡◌, Option, Some, None}
 use Rattle.std.proofs.Math.Path.{refl, sym, subst}
 use Rattle.std.proofs.Common.{◌∙◌, arith}
 use mathlib.Core.List.{List, [], ◌∷◌}
@@ -7,8 +7,6 @@ use Rattle.runfile.specs.declared.Row.{Row}
 use Rattle.runfile.specs.Operations.{first, count}
 use Rattle.runfile.specs.Shares.{last_fits}
 use Rattle.machine.specs.declared.Process.{Process}
-use Rattle.machine.specs.declared.Opened.{Opened}
-use Rattle.machine.specs.declared.Opened.TheVariants.{Closed, Open}
 use Rattle.machine.specs.declared.Status.{Status}
 use Rattle.machine.specs.declared.Status.TheVariants.{Down, Idle, N2, N3, Busy}
 use Rattle.machine.specs.Records.{Announcing, InWork, crashed, waked, woken_up, WorkOpen}
@@ -35,7 +33,7 @@ no_store N2 w x = w
 no_store N3 w x = w
 no_store (Busy stage seen read_at tried_at answer) w x = x
 
-open_any : (status : Status) (opened : Opened) (k : ℕ) → opened ≡ Open k → WorkOpen status opened
+open_any : (status : Status) (opened : Option ℕ) (k : ℕ) → opened ≡ Some k → WorkOpen status opened
 open_any Down opened k e = tt
 open_any Idle opened k e = tt
 open_any N2 opened k e = tt
@@ -62,13 +60,13 @@ module _ (rows : List Row) where
   sane_waked : (p : ℕ) (r : Process) (status : Status) → Sane rows p r → Sane rows p (waked r status)
   sane_waked p r Down h = record { in_file = h.in_file; works = go r.opened refl; left = λ x. absurd (quiet r.opened x) }
     where
-      go : (o : Opened) → r.opened ≡ o → WorkOpen (woken_up o) r.opened
-      go Closed q = tt
-      go (Open k) q = (k, q)
+      go : (o : Option ℕ) → r.opened ≡ o → WorkOpen (woken_up o) r.opened
+      go None q = tt
+      go (Some k) q = (k, q)
 
-      quiet : (o : Opened) → Announcing (woken_up o) → ⊥
-      quiet Closed x = x
-      quiet (Open k) x = x
+      quiet : (o : Option ℕ) → Announcing (woken_up o) → ⊥
+      quiet None x = x
+      quiet (Some k) x = x
   sane_waked p r Idle h = h
   sane_waked p r N2 h = h
   sane_waked p r N3 h = h

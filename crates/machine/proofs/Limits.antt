@@ -2,7 +2,7 @@
 -- each own step leads to a stage with fewer steps to go, or closes the row; no other byte touches the record of a process that is awake, unless it crashes
 -- it. And both limits are met.
 use Prim.Native.Nat.{ℕ, zero, suc, ◌+◌, ◌≤◌, ◌<◌}
-use Rattle.std.specs.Prelude.{◌≡◌, Bool, ◌⊎◌, eqb, get_or, replicate}
+use Rattle.std.specs.Prelude.{◌≡◌, Bool, ◌⊎◌, eqb, get_or, replicate, Option, Some, None}
 use Rattle.std.proofs.Math.Path.{refl, ap}
 use Rattle.std.proofs.Common.{sym, ◌∙◌, subst, inl, inr}
 use Rattle.std.proofs.Math.Bool.{true, false, cond}
@@ -19,12 +19,10 @@ use Rattle.runfile.specs.declared.Kind.{Kind}
 use Rattle.runfile.specs.Kinds.{kind_of}
 use Rattle.runfile.specs.Operations.{row_numbered, first, count}
 use Rattle.rows.specs.declared.Entry.{Entry}
+use Rattle.machine.specs.declared.Answer.{Answer}
 use Rattle.machine.specs.declared.Process.{Process}
 use Rattle.machine.specs.declared.Stage.{Stage}
 use Rattle.machine.specs.declared.Stage.TheVariants.{A1, A2, A3, A4, A5, A6, V1, V2, V3, V4, V5, V6}
-use Rattle.machine.specs.declared.Maybe.{Maybe}
-use Rattle.machine.specs.declared.Maybe.TheVariants.{None, Is}
-use Rattle.machine.specs.declared.Opened.TheVariants.{Closed, Open}
 use Rattle.machine.specs.declared.Status.{Status}
 use Rattle.machine.specs.declared.Status.TheVariants.{Down, Idle, N2, N3, Busy}
 use Rattle.machine.specs.Turn.{Turn}
@@ -87,13 +85,13 @@ data Pending (rows : List Row) (p n begun : ℕ) (r : Process) : Type 0 where
   starts : r.status ≡ Idle → r.begun < count rows p → suc r.begun ≡ begun → NoAdvance (next_kind rows p r) → 9 ≤ n → Pending rows p n begun r
   clears : r.status ≡ N2 → suc r.begun ≡ begun → NoAdvance (next_kind rows p r) → 8 ≤ n → Pending rows p n begun r
   opens : r.status ≡ N3 → suc r.begun ≡ begun → NoAdvance (next_kind rows p r) → 7 ≤ n → Pending rows p n begun r
-  works : (k : ℕ) → Working n (kind_of (row_numbered rows k)) r.status → r.opened ≡ Open k → r.begun ≡ begun → Pending rows p n begun r
+  works : (k : ℕ) → Working n (kind_of (row_numbered rows k)) r.status → r.opened ≡ Some k → r.begun ≡ begun → Pending rows p n begun r
 
 abbrev Due : List Row → (p n begun : ℕ) → Process → Type 0
 Due rows p n begun r = Ended begun r ⊎ Pending rows p n begun r
 
 -- an own step at a stage, on row k
-module _ (rows : List Row) (p t now : ℕ) (r : Process) (n begun k : ℕ) (o : r.opened ≡ Open k) (b : r.begun ≡ begun) where
+module _ (rows : List Row) (p t now : ℕ) (r : Process) (n begun k : ℕ) (o : r.opened ≡ Some k) (b : r.begun ≡ begun) where
   abbrev Nearer : Process → Type 0
   Nearer = Due rows p n begun
 
@@ -111,7 +109,7 @@ module _ (rows : List Row) (p t now : ℕ) (r : Process) (n begun k : ℕ) (o : 
   led l m = subst (λ u. Nearer (process_of r u)) (sym l.is) (on _ m refl refl)
 
   -- a stage leads to one with fewer steps to go, by whichever branch
-  nearer : (stage : Stage) (seen read_at tried_at : ℕ) (answer : Maybe) → further stage ≤ n → Limited (kind_of row) stage → Nearer (process_of r (decide row p t now r stage seen read_at tried_at answer))
+  nearer : (stage : Stage) (seen read_at tried_at : ℕ) (answer : Option Answer) → further stage ≤ n → Limited (kind_of row) stage → Nearer (process_of r (decide row p t now r stage seen read_at tried_at answer))
   unfolding decide_in further
   nearer A1 seen read_at tried_at answer m l = on _ (read_leads (Working n (kind_of row)) row now t (omega arith, l) (λ a. (omega arith, tt))) refl refl
   nearer A2 seen read_at tried_at answer m l = on _ (omega arith, l) refl refl
@@ -125,9 +123,9 @@ module _ (rows : List Row) (p t now : ℕ) (r : Process) (n begun k : ℕ) (o : 
   nearer A6 seen read_at tried_at answer m l = closes
   nearer V1 seen read_at tried_at answer m l = on _ (go r.stored) refl refl
     where
-      go : (stored : Maybe) → (further (recovered stored) < n) × Limited (kind_of row) (recovered stored)
+      go : (stored : Option Answer) → (further (recovered stored) < n) × Limited (kind_of row) (recovered stored)
       go None = (omega arith, tt)
-      go (Is a) = (omega arith, tt)
+      go (Some a) = (omega arith, tt)
   nearer V2 seen read_at tried_at answer m l = on _ (either (λ g. (further g < n) × Limited (kind_of row) g) r.checkpoint V3 V6 (omega arith, tt) (omega arith, tt)) refl refl
   nearer V3 seen read_at tried_at answer m l = ⊎_elim (λ l. led l (omega arith, tt)) (λ l. led l (omega arith, tt)) (v3_either row p t now r seen read_at tried_at answer)
   nearer V4 seen read_at tried_at answer m l = on _ (omega arith, tt) refl refl
@@ -255,7 +253,7 @@ module _ (rows : List Row) (P : ℕ) (words : List ℕ) where
       woken_is = rw (a, q, get_or-set_same (ran rows P words before).processes p _ fresh here, d)
 
       -- R151: after `before` it is down with a row open, of whatever kind, and the next byte wakes it
-      pub from_wake : (k : ℕ) (during : List ℕ) → (record_of rows P words p before).opened ≡ Open k → Uncrashed p during → 5 ≤ own_steps p during
+      pub from_wake : (k : ℕ) (during : List ℕ) → (record_of rows P words p before).opened ≡ Some k → Uncrashed p during → 5 ≤ own_steps p during
           → EndsWithin 5 (record_of rows P words p before).begun p during (λ part. ran rows P words (before ++ (byte ∷ part)))
       unfolding after_in further
       from_wake k during o u n =
@@ -263,7 +261,7 @@ module _ (rows : List Row) (P : ℕ) (words : List ℕ) where
           (within rows p 5 mine.begun (suc (0 + length before)) during woken (rw (size rows p (0 + length before) byte (ran rows P words before)) here) (rw (woken_is, o) (inr (works k (omega arith, tt) refl refl))) u n)
 
       -- with no row open it is idle at once (R132)
-      pub wake_idle : (record_of rows P words p before).opened ≡ Closed → Ended (record_of rows P words p before).begun (record_of rows P words p (before ++ (byte ∷ [])))
+      pub wake_idle : (record_of rows P words p before).opened ≡ None → Ended (record_of rows P words p before).begun (record_of rows P words p (before ++ (byte ∷ [])))
       wake_idle o = rw (after_snoc rows 0 before byte (begin P words), woken_is, o) (record { idle = refl; no_row = refl; begun = refl })
 
 -- The limits apply, and they are met. In case f (R266), 4·00 7·01 5·00, process 0 has 9 steps, with 7 of process 1 in between; in case d
@@ -281,7 +279,7 @@ module _ where
   abbrev first_f : List ℕ
   first_f = replicate 4 0 ++ replicate 7 1
 
-  pub case_f_lem : EndsWithin 9 1 0 (first_f ++ replicate 5 0) (ran rows_f 2 (7 ∷ [])) × ((record_of rows_f 2 (7 ∷ []) 0 (first_f ++ replicate 4 0)).opened ≡ Open 0)
+  pub case_f_lem : EndsWithin 9 1 0 (first_f ++ replicate 5 0) (ran rows_f 2 (7 ∷ [])) × ((record_of rows_f 2 (7 ∷ []) 0 (first_f ++ replicate 4 0)).opened ≡ Some 0)
   unfolding proc_at after_in step_in act_in applied apply begin turn_in step_turn_in decide_in tried_in storing_in count first row_numbered how_many value_in flips_in swapped_in turn_of
   case_f_lem = (from_start rows_f 2 (7 ∷ []) 0 (omega arith) [] _ refl (omega arith) tt refl (omega arith), refl)
 
@@ -291,7 +289,7 @@ module _ where
   abbrev crashed_d : List ℕ
   crashed_d = replicate 7 0 ++ (16 ∷ [])
 
-  pub case_d : EndsWithin 5 1 0 (replicate 5 0) (λ part. ran rows_d 1 (7 ∷ []) (crashed_d ++ (32 ∷ part))) × ((record_of rows_d 1 (7 ∷ []) 0 (crashed_d ++ (32 ∷ replicate 4 0))).opened ≡ Open 0)
+  pub case_d : EndsWithin 5 1 0 (replicate 5 0) (λ part. ran rows_d 1 (7 ∷ []) (crashed_d ++ (32 ∷ part))) × ((record_of rows_d 1 (7 ∷ []) 0 (crashed_d ++ (32 ∷ replicate 4 0))).opened ≡ Some 0)
   unfolding proc_at after_in step_in act_in applied apply begin turn_in step_turn_in decide_in tried_in count first row_numbered how_many value_in flips_in swapped_in turn_of bit_in bit_of
   case_d = (from_wake rows_d 1 (7 ∷ []) 0 (omega arith) crashed_d 32 refl refl refl 0 _ refl refl (omega arith), refl)
 
@@ -300,13 +298,13 @@ module _ where
   abbrev rows_one : List Row
   rows_one = advance 0 5 ∷ []
 
-  pub wakes_in_5 : EndsWithin 5 1 0 (replicate 5 0) (λ part. ran rows_one 1 (7 ∷ []) (crashed_d ++ (32 ∷ part))) × ((record_of rows_one 1 (7 ∷ []) 0 (crashed_d ++ (32 ∷ replicate 4 0))).opened ≡ Open 0)
+  pub wakes_in_5 : EndsWithin 5 1 0 (replicate 5 0) (λ part. ran rows_one 1 (7 ∷ []) (crashed_d ++ (32 ∷ part))) × ((record_of rows_one 1 (7 ∷ []) 0 (crashed_d ++ (32 ∷ replicate 4 0))).opened ≡ Some 0)
   unfolding proc_at after_in step_in act_in applied apply begin turn_in step_turn_in decide_in tried_in count first row_numbered how_many value_in flips_in swapped_in turn_of bit_in bit_of
   wakes_in_5 = (from_wake rows_one 1 (7 ∷ []) 0 (omega arith) crashed_d 32 refl refl refl 0 _ refl refl (omega arith), refl)
 
   abbrev rows-two : List Row
   rows-two = advance 0 5 ∷ advance 1 3 ∷ []
 
-  pub more_than_9 : (own_steps 0 (first_f ++ replicate 5 0) ≡ 9) × ((record_of rows-two 2 (7 ∷ []) 0 (first_f ++ replicate 5 0)).opened ≡ Open 0)
+  pub more_than_9 : (own_steps 0 (first_f ++ replicate 5 0) ≡ 9) × ((record_of rows-two 2 (7 ∷ []) 0 (first_f ++ replicate 5 0)).opened ≡ Some 0)
   unfolding proc_at after_in step_in act_in applied apply begin turn_in step_turn_in decide_in tried_in storing_in count first row_numbered how_many value_in flips_in swapped_in turn_of
   more_than_9 = (refl, refl)

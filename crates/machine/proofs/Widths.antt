@@ -1,7 +1,7 @@
 -- Two machines of different widths run alike: one relation between their states is kept by every byte, since a step comes to the same turn at both widths,
 -- and each turn keeps it.
 use Prim.Native.Nat.{ℕ, zero, suc, ◌+◌, ◌^◌, ◌≤◌, ◌<◌}
-use Rattle.std.specs.Prelude.{◌≡◌, Bool, not, eqb, ltb, set}
+use Rattle.std.specs.Prelude.{◌≡◌, Bool, not, eqb, ltb, set, Option, Some, None, ℕ}
 use Rattle.std.proofs.Math.Path.{refl, ap, ap₂, subst}
 use Rattle.std.proofs.Common.{sym, ◌∙◌}
 use Rattle.std.proofs.Math.Bool.{true, false, cond}
@@ -21,10 +21,6 @@ use Rattle.machine.specs.declared.Stage.{Stage}
 use Rattle.machine.specs.declared.Stage.TheVariants.{A1, A2, A3, A4, A5, A6, V1, V2, V3, V4, V5, V6}
 use Rattle.machine.specs.declared.Answer.{Answer}
 use Rattle.machine.specs.declared.Answer.TheVariants.{False, True, Value, Was}
-use Rattle.machine.specs.declared.Maybe.{Maybe}
-use Rattle.machine.specs.declared.Maybe.TheVariants.{None, Is}
-use Rattle.machine.specs.declared.Opened.{Opened}
-use Rattle.machine.specs.declared.Opened.TheVariants.{Closed, Open}
 use Rattle.machine.specs.declared.Status.{Status}
 use Rattle.machine.specs.declared.Status.TheVariants.{Down, Idle, N2, N3, Busy}
 use Rattle.machine.specs.Turn.{Turn, Still, Quiet, Swaps, Logs, Loses, Replies}
@@ -47,9 +43,9 @@ module _ (a b : ℕ) where
   waked_alike : (r : Process) (status : Status) → waked (record_widened a b r) (status_widened a b status) ≡ record_widened a b (waked r status)
   waked_alike r Down = ap (λ st. with_status st r) (go r.opened)
     where
-      go : (opened : Opened) → woken_up opened ≡ status_widened a b (woken_up opened)
-      go Closed = refl
-      go (Open k) = ap (λ w. Busy V1 w 0 0 None) (sym (zero_rewidened a b))
+      go : (opened : Option ℕ) → woken_up opened ≡ status_widened a b (woken_up opened)
+      go None = refl
+      go (Some k) = ap (λ w. Busy V1 w 0 0 None) (sym (zero_rewidened a b))
   waked_alike r Idle = refl
   waked_alike r N2 = refl
   waked_alike r N3 = refl
@@ -73,13 +69,13 @@ module _ (a b : ℕ) where
     keeps_turn rows p t k w r Still = record { words = h.words; processes = processes_set p r; log = h.log; answers = h.answers }
     keeps_turn rows p t k w r (Quiet next) = record { words = h.words; processes = processes_set p next; log = h.log; answers = h.answers }
     keeps_turn rows p t k w r (Swaps next x says) =
-        record { words = words_set w x; processes = processes_set p next; log = ap (insert (entry t p k (Is says))) h.log; answers = h.answers }
+        record { words = words_set w x; processes = processes_set p next; log = ap (insert (entry t p k (Some says))) h.log; answers = h.answers }
     keeps_turn rows p t k w r (Logs next q said) =
-        record { words = h.words; processes = processes_set p next; log = ap (insert (entry q p k (Is said))) h.log; answers = h.answers }
+        record { words = h.words; processes = processes_set p next; log = ap (insert (entry q p k (Some said))) h.log; answers = h.answers }
     keeps_turn rows p t k w r (Loses next after otherwise) = record {
       words = h.words;
       processes = processes_set p next;
-      log = ap (λ l. insert (entry (first_swap rows w after otherwise l) p k (Is False)) l) h.log;
+      log = ap (λ l. insert (entry (first_swap rows w after otherwise l) p k (Some False)) l) h.log;
       answers = h.answers;
     }
     keeps_turn rows p t k w r (Replies next said) =
@@ -98,10 +94,10 @@ module _ (a b : ℕ) where
   module _ (wider : a ≤ b) where
     -- A step comes to the same turn at both widths; here alone the stages are told apart.
     read_alike : (kind : Kind) (old now t : ℕ) → read_by_in b kind old (rewidened a b now) t ≡ status_widened a b (read_by_in a kind old now t)
-    read_alike Read old now t = ap (λ v. Busy A5 (rewidened a b now) t 0 (Is (Value v))) (value-rewidened a b wider now)
+    read_alike Read old now t = ap (λ v. Busy A5 (rewidened a b now) t 0 (Some (Value v))) (value-rewidened a b wider now)
     read_alike Compare old now t = rw (value-rewidened a b wider now) (go (eqb (value_in a now) old))
       where
-        go : (c : Bool) → cond c (Busy A2 (rewidened a b now) t 0 None) (Busy A5 (rewidened a b now) t 0 (Is False)) ≡ status_widened a b (cond c (Busy A2 now t 0 None) (Busy A5 now t 0 (Is False)))
+        go : (c : Bool) → cond c (Busy A2 (rewidened a b now) t 0 None) (Busy A5 (rewidened a b now) t 0 (Some False)) ≡ status_widened a b (cond c (Busy A2 now t 0 None) (Busy A5 now t 0 (Some False)))
         go true = refl
         go false = refl
     read_alike Advance old now t = refl
@@ -123,7 +119,7 @@ module _ (a b : ℕ) where
         says = swap_says (kind_of row) v
 
         won : Process
-        won = with_status (Busy A5 seen read_at t (Is says)) r
+        won = with_status (Busy A5 seen read_at t (Some says)) r
 
         lost : Process
         lost = with_status (lost_by (kind_of row) seen read_at t) r
@@ -134,21 +130,21 @@ module _ (a b : ℕ) where
         go true = ap (λ x. Swaps (record_widened a b won) x says) (ap (λ n. swapped_in b p n (rewidened a b seen)) (same v) ∙ sym (swapped-rewidened a b wider p (new_in a row v) seen (fits v)))
         go false = ap (λ st. Quiet (with_status st r)) (lost_alike (kind_of row) seen read_at t)
 
-    stored_alike : (row : Row) (next : Process) (seen read_at tried_at : ℕ) (answer : Maybe)
+    stored_alike : (row : Row) (next : Process) (seen read_at tried_at : ℕ) (answer : Option Answer)
         → storing_in b row (record_widened a b next) (rewidened a b seen) read_at tried_at answer ≡ turn_widened (storing_in a row next seen read_at tried_at answer)
     unfolding storing_in
     stored_alike row next seen read_at tried_at None = refl
-    stored_alike row next seen read_at tried_at (Is True) = refl
-    stored_alike row next seen read_at tried_at (Is (Was v)) = refl
-    stored_alike row next seen read_at tried_at (Is (Value v)) = refl
-    stored_alike row next seen read_at tried_at (Is False) = rw (value-rewidened a b wider seen) (go (eqb (value_in a seen) row.old))
+    stored_alike row next seen read_at tried_at (Some True) = refl
+    stored_alike row next seen read_at tried_at (Some (Was v)) = refl
+    stored_alike row next seen read_at tried_at (Some (Value v)) = refl
+    stored_alike row next seen read_at tried_at (Some False) = rw (value-rewidened a b wider seen) (go (eqb (value_in a seen) row.old))
       where
         go : (c : Bool) → cond c (Loses (record_widened a b next) read_at tried_at) (Logs (record_widened a b next) read_at False) ≡ turn_widened (cond c (Loses next read_at tried_at) (Logs next read_at False))
         go true = refl
         go false = refl
 
     module _ (row : Row) (fits : (v : ℕ) → new_in a row v < 2 ^ a) (same : (v : ℕ) → new_in b row v ≡ new_in a row v) (p t now : ℕ) (r : Process) where
-      decided_alike : (stage : Stage) (seen read_at tried_at : ℕ) (answer : Maybe)
+      decided_alike : (stage : Stage) (seen read_at tried_at : ℕ) (answer : Option Answer)
           → decide_in b row p t (rewidened a b now) (record_widened a b r) stage (rewidened a b seen) read_at tried_at answer ≡ turn_widened (decide_in a row p t now r stage seen read_at tried_at answer)
       unfolding decide_in
       decided_alike A1 seen read_at tried_at answer = ap (λ st. Quiet (with_status st r)) (read_alike (kind_of row) row.old now t)
@@ -178,9 +174,9 @@ module _ (a b : ℕ) where
           ap (λ w. Quiet (with_status (Busy A1 w 0 0 None) (started (first + r.begun) r))) (sym (zero_rewidened a b))
       step_alike first count (Busy stage seen read_at tried_at answer) = go r.opened
         where
-          go : (opened : Opened) → at_work_in b row p t (rewidened a b now) (record_widened a b r) opened stage (rewidened a b seen) read_at tried_at answer ≡ turn_widened (at_work_in a row p t now r opened stage seen read_at tried_at answer)
-          go Closed = refl
-          go (Open k) = decided_alike stage seen read_at tried_at answer
+          go : (opened : Option ℕ) → at_work_in b row p t (rewidened a b now) (record_widened a b r) opened stage (rewidened a b seen) read_at tried_at answer ≡ turn_widened (at_work_in a row p t now r opened stage seen read_at tried_at answer)
+          go None = refl
+          go (Some k) = decided_alike stage seen read_at tried_at answer
 
     -- Byte by byte: states that are alike stay so.
     module _ (rows : List Row) (agree : Agreeing a b rows) where

@@ -3,7 +3,7 @@
 -- bit of a process that has changed a word by no byte, or of whose swaps on it the log does not tell, is as it was at the start. Here are the words of it,
 -- and what one byte may write: nothing, or a swap by the process that it names, which has a row open. It is proved in proofs/Absent.antt.
 use Prim.Native.Nat.{ℕ, zero, suc, ◌^◌, ◌<◌}
-use Rattle.std.specs.Prelude.{◌≡◌, Bool, not, ◌&&◌, get_or, set}
+use Rattle.std.specs.Prelude.{◌≡◌, Bool, not, ◌&&◌, get_or, set, Some}
 use Rattle.std.proofs.Math.Bool.{true, false, cond}
 use mathlib.Core.List.{List, [], ◌∷◌}
 use Rattle.std.proofs.Math.Dec.{eqb}
@@ -16,7 +16,6 @@ use Rattle.rows.specs.declared.Entry.{Entry}
 use Rattle.rows.specs.Entries.{said, is_swapped}
 use Rattle.rows.specs.Log.{insert}
 use Rattle.machine.specs.declared.Process.{Process}
-use Rattle.machine.specs.declared.Opened.TheVariants.{Open}
 use Rattle.machine.specs.Machine.{State, step}
 
 -- the words after process p has swapped for row k
@@ -30,7 +29,7 @@ put_in rows p k words =
 -- an entry in the log that tells of no successful swap
 pub data Leaves (rows : List Row) (p : ℕ) (r : Process) (words : List ℕ) (log : List Entry) : List ℕ → List Entry → Type 0 where
   as_they_were : Leaves rows p r words log words log
-  one_swapped : (k : ℕ) (e : Entry) → r.opened ≡ Open k → e.process ≡ p → e.row ≡ k → is_swapped (said e) ≡ true → Leaves rows p r words log (put_in rows p k words) (insert e log)
+  one_swapped : (k : ℕ) (e : Entry) → r.opened ≡ Some k → e.process ≡ p → e.row ≡ k → is_swapped (said e) ≡ true → Leaves rows p r words log (put_in rows p k words) (insert e log)
   one_logged : (e : Entry) → is_swapped (said e) ≡ false → Leaves rows p r words log words (insert e log)
 
 -- Word w; that a byte names q and changes it; and how many of the bytes do.

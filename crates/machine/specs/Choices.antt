@@ -2,7 +2,7 @@
 -- bit of the word: not on the row, nor on the word's value, nor on the other bits, nor on when the step is made (for two words: `by_own_bit`, in
 -- proofs/Choices.antt). And what V4 stores depends on nothing but the row's kind and, of an advance, the kept value: not on the word, which others may
 -- have changed since.
-use Rattle.std.specs.Prelude.{ℕ, ◌≡◌, Bool, cond}
+use Rattle.std.specs.Prelude.{ℕ, ◌≡◌, Bool, cond, Option, Some, None}
 use Rattle.std.proofs.Math.Path.{refl, ap}
 use Rattle.std.proofs.Common.{◌∙◌}
 use Rattle.std.proofs.Math.Bool.{true, false}
@@ -15,8 +15,6 @@ use Rattle.machine.specs.declared.Stage.{Stage}
 use Rattle.machine.specs.declared.Stage.TheVariants.{V1, V2, V3, V4, V5, V6}
 use Rattle.machine.specs.declared.Answer.{Answer}
 use Rattle.machine.specs.declared.Answer.TheVariants.{True, Was}
-use Rattle.machine.specs.declared.Maybe.{Maybe}
-use Rattle.machine.specs.declared.Maybe.TheVariants.{None, Is}
 use Rattle.machine.specs.declared.Status.TheVariants.{Busy}
 use Rattle.machine.specs.Turn.{Turn, Quiet}
 use Rattle.machine.specs.Records.{with_status, with_stored}
@@ -27,13 +25,13 @@ pub record LeadsTo (r : Process) (stage : Stage) (u : Turn) : Type 0 where
   pub seen : ℕ
   pub read_at : ℕ
   pub tried_at : ℕ
-  pub answer : Maybe
+  pub answer : Option Answer
   pub is : u ≡ Quiet (with_status (Busy stage seen read_at tried_at answer) r)
 
 -- at whatever row, with whatever in hand
-module _ (row : Row) (p t now : ℕ) (r : Process) (seen read_at tried_at : ℕ) (answer : Maybe) where
+module _ (row : Row) (p t now : ℕ) (r : Process) (seen read_at tried_at : ℕ) (answer : Option Answer) where
   -- V1 goes by whether an answer is stored (R121)
-  pub v1_stored : (a : Answer) → r.stored ≡ Is a → LeadsTo r V5 (decide row p t now r V1 seen read_at tried_at answer)
+  pub v1_stored : (a : Answer) → r.stored ≡ Some a → LeadsTo r V5 (decide row p t now r V1 seen read_at tried_at answer)
   unfolding decide_in
   v1_stored a e = record { seen = seen; read_at = read_at; tried_at = tried_at; answer = answer; is = ap (λ m. Quiet (with_status (Busy (recovered m) seen read_at tried_at answer) r)) e }
 
@@ -66,11 +64,11 @@ module _ (row : Row) (p t now : ℕ) (r : Process) (seen read_at tried_at : ℕ)
       other false false n = absurd (n refl)
 
 -- V4 stores what its swap said, by the kept value, whatever the word is by then (R124)
-module _ (row : Row) (p t now : ℕ) (r : Process) (seen read_at tried_at : ℕ) (answer : Maybe) where
-  pub v4_advance : kind_of row ≡ Advance → decide row p t now r V4 seen read_at tried_at answer ≡ Quiet (with_stored (Busy V5 seen read_at tried_at answer) (Is (Was r.kept.value)) r)
+module _ (row : Row) (p t now : ℕ) (r : Process) (seen read_at tried_at : ℕ) (answer : Option Answer) where
+  pub v4_advance : kind_of row ≡ Advance → decide row p t now r V4 seen read_at tried_at answer ≡ Quiet (with_stored (Busy V5 seen read_at tried_at answer) (Some (Was r.kept.value)) r)
   unfolding decide_in
-  v4_advance e = ap (λ kind. Quiet (with_stored (Busy V5 seen read_at tried_at answer) (Is (swap_says kind r.kept.value)) r)) e
+  v4_advance e = ap (λ kind. Quiet (with_stored (Busy V5 seen read_at tried_at answer) (Some (swap_says kind r.kept.value)) r)) e
 
-  pub v4_compare : kind_of row ≡ Compare → decide row p t now r V4 seen read_at tried_at answer ≡ Quiet (with_stored (Busy V5 seen read_at tried_at answer) (Is True) r)
+  pub v4_compare : kind_of row ≡ Compare → decide row p t now r V4 seen read_at tried_at answer ≡ Quiet (with_stored (Busy V5 seen read_at tried_at answer) (Some True) r)
   unfolding decide_in
-  v4_compare e = ap (λ kind. Quiet (with_stored (Busy V5 seen read_at tried_at answer) (Is (swap_says kind r.kept.value)) r)) e
+  v4_compare e = ap (λ kind. Quiet (with_stored (Busy V5 seen read_at tried_at answer) (Some (swap_says kind r.kept.value)) r)) e

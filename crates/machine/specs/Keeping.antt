@@ -2,7 +2,7 @@
 -- step keeps the bit and, of an advance, the value that A1 read, both in its one byte (`kept_byte`). So whatever the bytes are, crashes and wakes and the
 -- steps of others among them, the kept value stays until p makes A2 of an advance, and the kept bit until p makes any A2 (`value_stays`, `kept_stays`). The
 -- three are proved in proofs/Keeping.antt.
-use Rattle.std.specs.Prelude.{ℕ, suc, ◌≡◌, Bool, not, ◌&&◌, eqb, replicate}
+use Rattle.std.specs.Prelude.{ℕ, suc, ◌≡◌, Bool, not, ◌&&◌, eqb, replicate, Option, Some, None}
 use Rattle.std.proofs.Math.Path.{refl}
 use Rattle.std.proofs.Math.Bool.{true, false, cond}
 use mathlib.Core.List.{List, [], ◌∷◌, ◌++◌}
@@ -15,8 +15,6 @@ use Rattle.runfile.specs.Operations.{row_numbered, first, count}
 use Rattle.word.specs.Word.{value, bit, value_in, flips_in, bit_in, bit_of, swapped_in, turn_of}
 use Rattle.machine.specs.declared.Process.{Process}
 use Rattle.machine.specs.declared.Kept.{Kept}
-use Rattle.machine.specs.declared.Opened.{Opened}
-use Rattle.machine.specs.declared.Opened.TheVariants.{Closed, Open}
 use Rattle.machine.specs.declared.Status.{Status}
 use Rattle.machine.specs.declared.Status.TheVariants.{Down, Idle, N2, N3, Busy}
 use Rattle.machine.specs.Records.{row_open}
@@ -26,13 +24,13 @@ use Rattle.machine.specs.Machine.{State, turn_in, apply, applied, proc_at, act_i
 use Rattle.machine.specs.Limits.{step_of, record_of}
 
 -- at A2 of an open row; and the word in hand, which is the one that A1 read
-abbrev pub at_a2 : Status → Opened → Bool
+abbrev pub at_a2 : Status → Option ℕ → Bool
 at_a2 Down opened = false
 at_a2 Idle opened = false
 at_a2 N2 opened = false
 at_a2 N3 opened = false
-at_a2 (Busy stage seen read_at tried_at answer) Closed = false
-at_a2 (Busy stage seen read_at tried_at answer) (Open k) = eqb (stage_number stage) 1
+at_a2 (Busy stage seen read_at tried_at answer) None = false
+at_a2 (Busy stage seen read_at tried_at answer) (Some k) = eqb (stage_number stage) 1
 
 abbrev pub in_hand : Status → ℕ
 in_hand Down = 0

@@ -1,6 +1,6 @@
 -- The fold over a schedule, taken apart; what a step may make of a process record, and what goes on to hold of it after a byte; and what it is that an
 -- open row is a row of the file (`Sane`). proofs/Laws.antt has the same over a schedule (`each_after`), and that every record is sane (`sane`).
-use Rattle.std.specs.Prelude.{ℕ, zero, suc, ◌+◌, ◌≤◌, ◌<◌, ◌≡◌, Bool, cond, ◌⊎◌, eqb, set, take, replicate}
+use Rattle.std.specs.Prelude.{ℕ, zero, suc, ◌+◌, ◌≤◌, ◌<◌, ◌≡◌, Bool, cond, ◌⊎◌, eqb, set, take, replicate, Option, Some, None}
 use Rattle.std.proofs.Math.Path.{refl, sym, subst}
 use Rattle.std.proofs.Common.{◌∙◌, ap, inl, inr, add-zero, zero-add, suc-add, add-suc, arith, take-suc, length-take-le, get_or-set_same, get_or-set_other}
 use Rattle.std.proofs.Math.Bool.{true, false}
@@ -16,13 +16,10 @@ use Rattle.runfile.specs.Actions.{Action, step as steps, crash as crashes, wake 
 use Rattle.runfile.specs.Kinds.{kind_of}
 use Rattle.runfile.specs.Operations.{row_numbered, first, count}
 use Rattle.rows.specs.declared.Entry.{Entry}
+use Rattle.machine.specs.declared.Answer.{Answer}
 use Rattle.machine.specs.declared.Process.{Process}
 use Rattle.machine.specs.declared.Stage.{Stage}
 use Rattle.machine.specs.declared.Stage.TheVariants.{A1, A2, A3, A4, A5, A6, V1, V2, V3, V4, V5, V6}
-use Rattle.machine.specs.declared.Maybe.{Maybe}
-use Rattle.machine.specs.declared.Maybe.TheVariants.{None}
-use Rattle.machine.specs.declared.Opened.{Opened}
-use Rattle.machine.specs.declared.Opened.TheVariants.{Closed, Open}
 use Rattle.machine.specs.declared.Status.{Status}
 use Rattle.machine.specs.declared.Status.TheVariants.{Down, Idle, N2, N3, Busy}
 use Rattle.machine.specs.Records.{fresh, with_status, with_stored, with_checkpoint, Announcing, InWork, started, crashed, waked, row_open, WorkOpen}
@@ -51,9 +48,9 @@ after_next rows schedule n s h =
 -- a turn of a process in the midst of work leaves it at work on the same row, or idle with none open; it begins no row
 pub data Goes (r : Process) : Process → Type 0 where
   on : {next : Process} → next.opened ≡ r.opened → next.begun ≡ r.begun → InWork next.status → Goes r next
-  ends : {next : Process} → next.opened ≡ Closed → next.status ≡ Idle → next.begun ≡ r.begun → Goes r next
+  ends : {next : Process} → next.opened ≡ None → next.status ≡ Idle → next.begun ≡ r.begun → Goes r next
 
-pub goes : (row : Row) (p t now : ℕ) (r : Process) (stage : Stage) (seen read_at tried_at : ℕ) (answer : Maybe) → Goes r (process_of r (decide row p t now r stage seen read_at tried_at answer))
+pub goes : (row : Row) (p t now : ℕ) (r : Process) (stage : Stage) (seen read_at tried_at : ℕ) (answer : Option Answer) → Goes r (process_of r (decide row p t now r stage seen read_at tried_at answer))
 unfolding decide_in
 goes row p t now r A1 seen read_at tried_at answer = read_leads (λ st. Goes r (with_status st r)) row now t (on refl refl tt) (λ a. on refl refl tt)
 goes row p t now r A2 seen read_at tried_at answer = on refl refl tt
@@ -77,7 +74,7 @@ pub data Turned (rows : List Row) (p : ℕ) (r : Process) : Process → Type 0 w
   first_store : r.begun < count rows p → Turned rows p r (with_stored N2 None r)
   second_store : r.status ≡ N2 → Turned rows p r (with_checkpoint N3 false r)
   third_store : r.status ≡ N3 → Turned rows p r (started (first rows p + r.begun) r)
-  works : {next : Process} → (k : ℕ) → r.opened ≡ Open k → Goes r next → Turned rows p r next
+  works : {next : Process} → (k : ℕ) → r.opened ≡ Some k → Goes r next → Turned rows p r next
 
 pub turned : (rows : List Row) (p t : ℕ) (words : List ℕ) (log : List Entry) (r : Process) → Turned rows p r (turn rows p t words log r r.status).process
 unfolding turn_in step_turn_in
@@ -87,9 +84,9 @@ turned rows p t words log r = go r.status refl
     start true l = first_store (ltb-true r.begun (count rows p) l)
     start false l = still
 
-    work : (o : Opened) → r.opened ≡ o → (row : Row) (now : ℕ) (stage : Stage) (seen read_at tried_at : ℕ) (answer : Maybe) → Turned rows p r (process_of r (at_work row p t now r o stage seen read_at tried_at answer))
-    work Closed q row now stage seen read_at tried_at answer = still
-    work (Open k) q row now stage seen read_at tried_at answer = works k q (goes row p t now r stage seen read_at tried_at answer)
+    work : (o : Option ℕ) → r.opened ≡ o → (row : Row) (now : ℕ) (stage : Stage) (seen read_at tried_at : ℕ) (answer : Option Answer) → Turned rows p r (process_of r (at_work row p t now r o stage seen read_at tried_at answer))
+    work None q row now stage seen read_at tried_at answer = still
+    work (Some k) q row now stage seen read_at tried_at answer = works k q (goes row p t now r stage seen read_at tried_at answer)
 
     go : (status : Status) → r.status ≡ status → Turned rows p r (process_of r (step_turn (row_numbered rows (row_open r.opened)) p t (get_or words (row_numbered rows (row_open r.opened)).word 0) (first rows p) (count rows p) r status))
     go Down e = still
@@ -162,7 +159,7 @@ module _ (rows : List Row) (Q : ℕ → Process → Type 0)
 
 -- an open row is a row of the file, in the midst of work a row is open, and in the midst of the announcement p has rows left
 pub record Sane (rows : List Row) (p : ℕ) (r : Process) : Type 0 where
-  pub in_file : (k : ℕ) → r.opened ≡ Open k → k < length rows
+  pub in_file : (k : ℕ) → r.opened ≡ Some k → k < length rows
   pub works : WorkOpen r.status r.opened
   pub left : Announcing r.status → r.begun < count rows p
 
@@ -172,7 +169,7 @@ fresh_at zero p = refl
 fresh_at (suc P) zero = refl
 fresh_at (suc P) (suc p) = fresh_at P p
 
-pub closed_open : {A : Type 0} {k : ℕ} → Closed ≡ Open k → A
+pub closed_open : {A : Type 0} {k : ℕ} → None ≡ Some k → A
 closed_open e = absurd (let z : ◌≡◌ {A = ℕ} 0 1 = cc in omega arith)
 
 module _ (rows : List Row) where

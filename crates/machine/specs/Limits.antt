@@ -3,7 +3,7 @@
 -- That is proved in proofs/Limits.antt (`from_start`, `from_wake`). For an advance no limit from the start is claimed, since its A4 may lead back to A1
 -- (R118); `more_than_9`, there, has one that needs more.
 use Prim.Native.Nat.{ℕ, suc, ◌+◌, ◌≤◌, ◌<◌}
-use Rattle.std.specs.Prelude.{◌≡◌, Bool, eqb}
+use Rattle.std.specs.Prelude.{◌≡◌, Bool, eqb, None}
 use Rattle.std.proofs.Math.Path.{refl}
 use Rattle.std.proofs.Math.Bool.{true, false, cond}
 use mathlib.Core.List.{List, [], ◌∷◌, ◌++◌}
@@ -15,7 +15,6 @@ use Rattle.runfile.specs.declared.Kind.{Kind}
 use Rattle.runfile.specs.Kinds.{kind_of}
 use Rattle.runfile.specs.Operations.{row_numbered, first}
 use Rattle.machine.specs.declared.Process.{Process}
-use Rattle.machine.specs.declared.Opened.TheVariants.{Closed}
 use Rattle.machine.specs.declared.Status.TheVariants.{Idle}
 use Rattle.machine.specs.Machine.{State, apply, applied, proc_at, act, act_in, step, step_in, after, after_in, begin}
 
@@ -50,7 +49,7 @@ Uncrashed p bytes = how_many (λ byte. crash_of p (action byte) (named byte)) by
 -- the row is closed, the process is idle (R116, R125, R126), and it has begun n rows (R84)
 pub record Ended (n : ℕ) (r : Process) : Type 0 where
   pub idle : r.status ≡ Idle
-  pub no_row : r.opened ≡ Closed
+  pub no_row : r.opened ≡ None
   pub begun : r.begun ≡ n
 
 -- the operation ends in time (R150, R151): the bytes have a first part, with at most `limit` steps of p, after which p has ended it; `at` gives

@@ -1,5 +1,5 @@
 -- The machine: what a step comes to is carried out on words, records, log and answers; a byte; a schedule (R70 to R173).
-use Rattle.std.specs.Prelude.{ℕ, suc, List, [], ◌∷◌, ◌++◌, map, get_or, set, replicate}
+use Rattle.std.specs.Prelude.{ℕ, suc, List, [], ◌∷◌, ◌++◌, map, get_or, set, replicate, Some}
 use Rattle.runfile.specs.declared.Row.{Row}
 use Rattle.runfile.specs.Actions.{Action, step as steps, crash as crashes, wake as wakes, crash_all as crashes_all, none as idles, action, named}
 use Rattle.runfile.specs.Operations.{row_numbered, first, count}
@@ -8,7 +8,6 @@ use Rattle.rows.specs.declared.Entry.{Entry}
 use Rattle.rows.specs.Log.{insert, first_swap}
 use Rattle.machine.specs.declared.Process.{Process}
 use Rattle.machine.specs.declared.Answer.TheVariants.{False}
-use Rattle.machine.specs.declared.Maybe.TheVariants.{Is}
 use Rattle.machine.specs.declared.Status.{Status}
 use Rattle.machine.specs.Turn.{Turn, Still, Quiet, Swaps, Logs, Loses, Replies}
 use Rattle.machine.specs.Records.{fresh, crashed, waked, row_open}
@@ -46,9 +45,9 @@ process_of r (Replies next said) = next
 abbrev pub effect_of : List Row → List Entry → (p t k w : ℕ) → Turn → Effect
 effect_of rows log p t k w Still = quiet
 effect_of rows log p t k w (Quiet next) = quiet
-effect_of rows log p t k w (Swaps next x says) = swaps w x (entry t p k (Is says))
-effect_of rows log p t k w (Logs next q a) = logs (entry q p k (Is a))
-effect_of rows log p t k w (Loses next after otherwise) = logs (entry (first_swap rows w after otherwise log) p k (Is False))
+effect_of rows log p t k w (Swaps next x says) = swaps w x (entry t p k (Some says))
+effect_of rows log p t k w (Logs next q a) = logs (entry q p k (Some a))
+effect_of rows log p t k w (Loses next after otherwise) = logs (entry (first_swap rows w after otherwise log) p k (Some False))
 effect_of rows log p t k w (Replies next said) = replies (entry t p k said)
 
 abbrev pub move_of : List Row → List Entry → (p t k w : ℕ) → Process → Turn → Move

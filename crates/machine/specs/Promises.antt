@@ -1,6 +1,6 @@
 -- The contracts of the exported functions, each an equation for the result or for each number that is left; and for each a law that it leaves no
 -- second outcome. A contract of one equation is that equation under a name, so that a caller rewrites with it as it stands.
-use Rattle.std.specs.Prelude.{ℕ, ◌+◌, ◌*◌, ◌≤◌, ◌≡◌, Bool, cond, List, eqb, ltb, length, get_or, set}
+use Rattle.std.specs.Prelude.{ℕ, ◌+◌, ◌*◌, ◌≤◌, ◌≡◌, Bool, cond, List, eqb, ltb, length, get_or, set, Option, None}
 use Rattle.std.proofs.Common.{sym, ◌∙◌}
 use Rattle.runfile.specs.declared.Row.{Row}
 use Rattle.runfile.specs.declared.Kind.{Kind}
@@ -16,11 +16,8 @@ use Rattle.machine.specs.declared.Kept.{Kept}
 use Rattle.machine.specs.declared.Answer.{Answer}
 use Rattle.machine.specs.declared.Stage.{Stage}
 use Rattle.machine.specs.declared.Stage.TheVariants.{V3, V4, V6}
-use Rattle.machine.specs.declared.Opened.{Opened}
 use Rattle.machine.specs.declared.Status.{Status}
 use Rattle.machine.specs.declared.Status.TheVariants.{Busy}
-use Rattle.machine.specs.declared.Maybe.{Maybe}
-use Rattle.machine.specs.declared.Maybe.TheVariants.{None}
 use Rattle.machine.specs.declared.Work.{Work}
 use Rattle.machine.specs.Records.{fresh, nobody, row_open, started, down_to}
 use Rattle.machine.specs.Stages.{stage_number}
@@ -37,11 +34,11 @@ abbrev pub StageNumbered : (stage : Stage) (r : ℕ) → Type 0
 StageNumbered stage r = r ≡ stage_number stage
 
 -- `open_row(opened)`
-abbrev pub OpenRow : (opened : Opened) (r : ℕ) → Type 0
+abbrev pub OpenRow : (opened : Option ℕ) (r : ℕ) → Type 0
 OpenRow opened r = r ≡ row_open opened
 
 -- `busy(stage, word, read_at, tried_at, answer)`
-abbrev pub AtWork : (stage : Stage) (word read_at tried_at : ℕ) (answer : Maybe) (r : Status) → Type 0
+abbrev pub AtWork : (stage : Stage) (word read_at tried_at : ℕ) (answer : Option Answer) (r : Status) → Type 0
 AtWork stage word read_at tried_at answer r = r ≡ Busy stage word read_at tried_at answer
 
 -- `start(process, first)`
@@ -79,7 +76,7 @@ abbrev pub AfterLoss : (kind : Kind) (seen read_at position : ℕ) (r : Status) 
 AfterLoss kind seen read_at position r = r ≡ lost_by kind seen read_at position
 
 -- `recovered_of(stored)`, `by_checkpoint(checkpoint)` and `by_bit(me, now, kept)`: V1, V2 and V3
-abbrev pub RecoveredBy : (stored : Maybe) (r : Stage) → Type 0
+abbrev pub RecoveredBy : (stored : Option Answer) (r : Stage) → Type 0
 RecoveredBy stored r = r ≡ recovered stored
 
 abbrev pub ByCheckpoint : (checkpoint : Bool) (r : Stage) → Type 0
@@ -89,14 +86,14 @@ abbrev pub ByBit : (me now : ℕ) (kept : Bool) (r : Stage) → Type 0
 ByBit me now kept r = r ≡ cond (same_bit (bit me now) kept) V4 V6
 
 -- `reply_of(number, answer, stored)`: what is returned at stage number 5, 10 and 11
-abbrev pub reply_at : ℕ → Maybe → Maybe → Maybe
+abbrev pub reply_at : ℕ → Option Answer → Option Answer → Option Answer
 reply_at number answer stored = cond (eqb number 5) answer (cond (eqb number 10) stored None)
 
-abbrev pub Replied : (number : ℕ) (answer stored r : Maybe) → Type 0
+abbrev pub Replied : (number : ℕ) (answer stored r : Option Answer) → Type 0
 Replied number answer stored r = r ≡ reply_at number answer stored
 
 -- `entry_of(position, process, row, said)`
-abbrev pub EntryMade : (position process row : ℕ) (said : Maybe) (r : Entry) → Type 0
+abbrev pub EntryMade : (position process row : ℕ) (said : Option Answer) (r : Entry) → Type 0
 EntryMade position process row said r = r ≡ entry position process row said
 
 -- `word_now(table, stride, k, words)`: the word that row k is on
@@ -137,10 +134,10 @@ fresh_one r q a b = a ∙ sym b
 pub stage_numbered_one : (stage : Stage) (r q : ℕ) → StageNumbered stage r → StageNumbered stage q → r ≡ q
 stage_numbered_one stage r q a b = a ∙ sym b
 
-pub open_row_one : (opened : Opened) (r q : ℕ) → OpenRow opened r → OpenRow opened q → r ≡ q
+pub open_row_one : (opened : Option ℕ) (r q : ℕ) → OpenRow opened r → OpenRow opened q → r ≡ q
 open_row_one opened r q a b = a ∙ sym b
 
-pub at_work_one : (stage : Stage) (word read_at tried_at : ℕ) (answer : Maybe) (r q : Status) → AtWork stage word read_at tried_at answer r → AtWork stage word read_at tried_at answer q → r ≡ q
+pub at_work_one : (stage : Stage) (word read_at tried_at : ℕ) (answer : Option Answer) (r q : Status) → AtWork stage word read_at tried_at answer r → AtWork stage word read_at tried_at answer q → r ≡ q
 at_work_one stage word read_at tried_at answer r q a b = a ∙ sym b
 
 pub started_one : (process : Process) (first : ℕ) (r q : Process) → Started process first r → Started process first q → r ≡ q
@@ -164,7 +161,7 @@ swap_said_one kind value r q a b = a ∙ sym b
 pub after_loss_one : (kind : Kind) (seen read_at position : ℕ) (r q : Status) → AfterLoss kind seen read_at position r → AfterLoss kind seen read_at position q → r ≡ q
 after_loss_one kind seen read_at position r q a b = a ∙ sym b
 
-pub recovered_by_one : (stored : Maybe) (r q : Stage) → RecoveredBy stored r → RecoveredBy stored q → r ≡ q
+pub recovered_by_one : (stored : Option Answer) (r q : Stage) → RecoveredBy stored r → RecoveredBy stored q → r ≡ q
 recovered_by_one stored r q a b = a ∙ sym b
 
 pub by_checkpoint_one : (checkpoint : Bool) (r q : Stage) → ByCheckpoint checkpoint r → ByCheckpoint checkpoint q → r ≡ q
@@ -173,10 +170,10 @@ by_checkpoint_one checkpoint r q a b = a ∙ sym b
 pub by_bit_one : (me now : ℕ) (kept : Bool) (r q : Stage) → ByBit me now kept r → ByBit me now kept q → r ≡ q
 by_bit_one me now kept r q a b = a ∙ sym b
 
-pub replied_one : (number : ℕ) (answer stored r q : Maybe) → Replied number answer stored r → Replied number answer stored q → r ≡ q
+pub replied_one : (number : ℕ) (answer stored r q : Option Answer) → Replied number answer stored r → Replied number answer stored q → r ≡ q
 replied_one number answer stored r q a b = a ∙ sym b
 
-pub entry_made_one : (position process row : ℕ) (said : Maybe) (r q : Entry) → EntryMade position process row said r → EntryMade position process row said q → r ≡ q
+pub entry_made_one : (position process row : ℕ) (said : Option Answer) (r q : Entry) → EntryMade position process row said r → EntryMade position process row said q → r ≡ q
 entry_made_one position process row said r q a b = a ∙ sym b
 
 pub word_now_one : (stride : ℕ) (table : List ℕ) (k : ℕ) (words : List ℕ) (r q : ℕ) → WordNow stride table k words r → WordNow stride table k words q → r ≡ q

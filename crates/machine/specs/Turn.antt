@@ -1,8 +1,7 @@
 -- What a step comes to: the record after it, and what is done besides.
-use Rattle.std.specs.Prelude.{ℕ}
+use Rattle.std.specs.Prelude.{ℕ, Option}
 use Rattle.machine.specs.declared.Process.{Process}
 use Rattle.machine.specs.declared.Answer.{Answer}
-use Rattle.machine.specs.declared.Maybe.{Maybe}
 
 pub data Turn : Type 0 where
   -- nothing at all: the process is down, or idle with no rows left (R140, R141)
@@ -16,4 +15,4 @@ pub data Turn : Type 0 where
   -- a false enters the log at the first swap on the word after the first position (R168); where the log has none, at the second (R169)
   Loses : Process → ℕ → ℕ → Turn
   -- an answer row is added, and the row is closed (R163)
-  Replies : Process → Maybe → Turn
+  Replies : Process → Option Answer → Turn

@@ -1,7 +1,7 @@
 // What A2, A4 and V4 do by the kind of the row. A read has none of these stages, and goes with a compare.
 ghost use Rattle.machine.specs.Promises.{KeptNow, PutIn, SwapSaid, AfterLoss};
 
-use super::{Answer, Kept, Maybe, Stage, Status};
+use super::{Answer, Kept, Stage, Status};
 use runfile::Kind;
 
 // A2: what is kept, beside what was kept before, in one store (R112).
@@ -41,7 +41,7 @@ pub fn swap_says(kind: Kind, value: u32) -> Answer
 pub fn after_loss(kind: Kind, seen: u64, read_at: u16, position: u16) -> Status
     ensures { AfterLoss kind seen read_at position result }
 {
-    let no = Maybe::Is(Answer::False);
+    let no = Some(Answer::False);
     match kind {
         Kind::Read => {
             Status::Busy {
@@ -67,7 +67,7 @@ pub fn after_loss(kind: Kind, seen: u64, read_at: u16, position: u16) -> Status
                 word: 0,
                 read_at: 0,
                 tried_at: 0,
-                answer: Maybe::None,
+                answer: None,
             }
         }
     }

@@ -33,27 +33,14 @@ pub enum Stage {
     V6,
 }
 
-// An answer: of a compare, of a read, and of an advance, which says what the value was before it (R85).
+// An answer: of a compare, of a read, and of an advance, which says what the value was before it (R85). Where none is
+// an answer too, an `Option` of it stands: the stored one, the one to store, and what is returned (none is fail).
 #[derive(Clone, Copy)]
 pub enum Answer {
     False,
     True,
     Value(u32),
     Was(u32),
-}
-
-// An answer, or none: the stored one, the one to store, and what is returned (none is fail; R85).
-#[derive(Clone, Copy)]
-pub enum Maybe {
-    None,
-    Is(Answer),
-}
-
-// The open row, by its number in the file.
-#[derive(Clone, Copy)]
-pub enum Opened {
-    Closed,
-    Open(u16),
 }
 
 // All that is volatile stands here, so a crash cannot forget to clear any of it (R83, R300). A row is announced by
@@ -70,7 +57,7 @@ pub enum Status {
         word: u64,
         read_at: u16,
         tried_at: u16,
-        answer: Maybe,
+        answer: Option<Answer>,
     },
 }
 
@@ -85,8 +72,9 @@ pub struct Kept {
 #[derive(Clone, Copy)]
 pub struct Process {
     pub status: Status,
-    pub opened: Opened,
-    pub stored: Maybe,
+    // The open row, by its number in the file.
+    pub opened: Option<u16>,
+    pub stored: Option<Answer>,
     pub checkpoint: bool,
     pub kept: Kept,
     pub begun: u16,
@@ -100,5 +88,5 @@ pub struct Work {
     pub seen: u64,
     pub read_at: u16,
     pub tried_at: u16,
-    pub answer: Maybe,
+    pub answer: Option<Answer>,
 }

@@ -4,7 +4,7 @@ ghost use Rattle.machine.specs.Reach.{Reach, Looked};
 ghost use Rattle.machine.specs.Promises.{WordNow, WordStored, AfterRead, FalseAt, Enterable, Entered};
 
 use super::said::entry_of;
-use super::{Answer, Maybe, Stage, Status, Work};
+use super::{Answer, Stage, Status, Work};
 use rows::Sought;
 use runfile::{Kind, Row};
 
@@ -39,7 +39,7 @@ pub fn after_read(row: Row, word: u64, position: u16) -> Status
                 word,
                 read_at: position,
                 tried_at: 0,
-                answer: Maybe::Is(Answer::Value(word::value_of(word))),
+                answer: Some(Answer::Value(word::value_of(word))),
             }
         }
         Kind::Compare => {
@@ -49,7 +49,7 @@ pub fn after_read(row: Row, word: u64, position: u16) -> Status
                     word,
                     read_at: position,
                     tried_at: 0,
-                    answer: Maybe::None,
+                    answer: None,
                 };
             }
             Status::Busy {
@@ -57,7 +57,7 @@ pub fn after_read(row: Row, word: u64, position: u16) -> Status
                 word,
                 read_at: position,
                 tried_at: 0,
-                answer: Maybe::Is(Answer::False),
+                answer: Some(Answer::False),
             }
         }
         Kind::Advance => {
@@ -66,7 +66,7 @@ pub fn after_read(row: Row, word: u64, position: u16) -> Status
                 word,
                 read_at: position,
                 tried_at: 0,
-                answer: Maybe::None,
+                answer: None,
             }
         }
     }
@@ -107,7 +107,7 @@ pub fn enter(
     ensures { Entered stride table.now n log.old log_rows work result log.new }
 {
     let answer = work.answer;
-    let Maybe::Is(said) = answer else {
+    let Some(said) = answer else {
         return log_rows;
     };
     match said {

@@ -2,7 +2,7 @@
 ghost use Rattle.std.specs.Prelude.{◌+◌, ◌<◌};
 ghost use Rattle.machine.specs.Promises.{Fresh, StageNumbered, OpenRow, AtWork, Started, AtMostSixteen, CrashedFirst};
 
-use super::{Kept, Maybe, Opened, Process, Stage, Status};
+use super::{Answer, Kept, Process, Stage, Status};
 
 // The record before the first byte (R86).
 pub fn fresh() -> Process
@@ -10,8 +10,8 @@ pub fn fresh() -> Process
 {
     Process {
         status: Status::Idle,
-        opened: Opened::Closed,
-        stored: Maybe::None,
+        opened: None,
+        stored: None,
         checkpoint: false,
         kept: Kept {
             bit: false,
@@ -42,17 +42,17 @@ pub fn stage_number(stage: Stage) -> u8
 }
 
 // The number of the open row; 0 where none is open.
-pub fn open_row(opened: Opened) -> u16
+pub fn open_row(opened: Option<u16>) -> u16
     ensures { OpenRow opened result }
 {
     match opened {
-        Opened::Closed => 0,
-        Opened::Open(k) => k,
+        None => 0,
+        Some(k) => k,
     }
 }
 
 // In the midst of work.
-pub fn busy(stage: Stage, word: u64, read_at: u16, tried_at: u16, answer: Maybe) -> Status
+pub fn busy(stage: Stage, word: u64, read_at: u16, tried_at: u16, answer: Option<Answer>) -> Status
     ensures { AtWork stage word read_at tried_at answer result }
 {
     Status::Busy {
@@ -70,8 +70,8 @@ pub fn start(process: Process, first: u16) -> Process
     ensures { Started process first result }
 {
     Process {
-        status: busy(Stage::A1, 0, 0, 0, Maybe::None),
-        opened: Opened::Open(first + process.begun),
+        status: busy(Stage::A1, 0, 0, 0, None),
+        opened: Some(first + process.begun),
         begun: process.begun + 1,
         ..process
     }

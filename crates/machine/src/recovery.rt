@@ -2,15 +2,15 @@
 ghost use Rattle.std.specs.Prelude.{◌<◌};
 ghost use Rattle.machine.specs.Promises.{RecoveredBy, ByCheckpoint, ByBit, Replied};
 
-use super::{Maybe, Stage};
+use super::{Answer, Stage};
 
 // V1: by whether an answer is stored (R121).
-pub fn recovered_of(stored: Maybe) -> Stage
+pub fn recovered_of(stored: Option<Answer>) -> Stage
     ensures { RecoveredBy stored result }
 {
     match stored {
-        Maybe::None => Stage::V2,
-        Maybe::Is(_) => Stage::V5,
+        None => Stage::V2,
+        Some(_) => Stage::V5,
     }
 }
 
@@ -34,12 +34,12 @@ pub fn by_bit(me: u8, now: u64, kept: bool) -> Stage
 }
 
 // What is returned: the answer at A6 (number 5; R116), the stored one at V5 (number 10; R125), and fail at V6 (R126).
-pub fn reply_of(number: u8, answer: Maybe, stored: Maybe) -> Maybe
+pub fn reply_of(number: u8, answer: Option<Answer>, stored: Option<Answer>) -> Option<Answer>
     ensures { Replied number answer stored result }
 {
     match number {
         5 => answer,
         10 => stored,
-        _ => Maybe::None,
+        _ => None,
     }
 }

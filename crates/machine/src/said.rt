@@ -3,15 +3,15 @@ ghost use Rattle.std.specs.Prelude.{◌≡◌};
 ghost use Rattle.machine.specs.Promises.{EntryMade};
 ghost use Rattle.machine.specs.Steps.{spoken};
 
-use super::{Answer, Maybe};
+use super::Answer;
 use rows::Entry;
 
 // The verdict (R161).
 #[tactic(auto, unfolding(crate::specs::Steps::spoken))]
-fn verdict_of(said: Maybe) -> u32
+fn verdict_of(said: Option<Answer>) -> u32
     ensures { result ≡ (spoken said).verdict }
 {
-    let Maybe::Is(answer) = said else {
+    let Some(answer) = said else {
         return 2;
     };
     match answer {
@@ -24,10 +24,10 @@ fn verdict_of(said: Maybe) -> u32
 
 // The value: 0 for all but a value read and the value before an advance (R162).
 #[tactic(auto, unfolding(crate::specs::Steps::spoken))]
-fn value_said(said: Maybe) -> u32
+fn value_said(said: Option<Answer>) -> u32
     ensures { result ≡ (spoken said).value }
 {
-    let Maybe::Is(answer) = said else {
+    let Some(answer) = said else {
         return 0;
     };
     match answer {
@@ -39,7 +39,7 @@ fn value_said(said: Maybe) -> u32
 }
 
 // A row of the log or of the answers.
-pub fn entry_of(position: u32, process: u8, row: u16, said: Maybe) -> Entry
+pub fn entry_of(position: u32, process: u8, row: u16, said: Option<Answer>) -> Entry
     ensures { EntryMade position process row said result }
 {
     Entry {

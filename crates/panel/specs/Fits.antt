@@ -1,5 +1,5 @@
 -- A record that can be is sane, so that it is able to step.
-use Rattle.std.specs.Prelude.{ℕ, zero, suc, ◌+◌, ◌≤◌, ◌<◌, ◌≡◌, Bool, true, false, not, ◌||◌, List, eqb, length, get_or, ◌≢◌}
+use Rattle.std.specs.Prelude.{ℕ, zero, suc, ◌+◌, ◌≤◌, ◌<◌, ◌≡◌, Bool, true, false, not, ◌||◌, List, eqb, length, get_or, ◌≢◌, Option, Some, None}
 use Rattle.std.proofs.Math.Path.{refl}
 use Rattle.std.proofs.Common.{subst, true≢false, arith}
 use borrow.Author.Tests.{ltb-false, leb-false, eqb-true, eqb-false, not-false}
@@ -8,8 +8,6 @@ use Rattle.runfile.specs.Operations.{first, count}
 use Rattle.runfile.specs.Lawful.{neither}
 use Rattle.runfile.specs.Shares.{last_fits}
 use Rattle.machine.specs.declared.Process.{Process}
-use Rattle.machine.specs.declared.Opened.{Opened}
-use Rattle.machine.specs.declared.Opened.TheVariants.{Closed, Open}
 use Rattle.machine.specs.declared.Status.{Status}
 use Rattle.machine.specs.declared.Status.TheVariants.{Down, Idle, N2, N3, Busy}
 use Rattle.machine.specs.Records.{nobody, WorkOpen, Announcing}
@@ -49,13 +47,13 @@ sane_of rows p r e =
         let f = last_fits rows p in
         omega arith
 
-    at_work_lem : (st : Status) (o : Opened) → r.opened ≡ o → none_at o st ≡ false → WorkOpen st r.opened
+    at_work_lem : (st : Status) (o : Option ℕ) → r.opened ≡ o → none_at o st ≡ false → WorkOpen st r.opened
     at_work_lem Down o q h = tt
     at_work_lem Idle o q h = tt
     at_work_lem N2 o q h = tt
     at_work_lem N3 o q h = tt
-    at_work_lem (Busy stage seen read_at tried_at answer) Closed q h = absurd (true≢false h)
-    at_work_lem (Busy stage seen read_at tried_at answer) (Open k) q h = (k, q)
+    at_work_lem (Busy stage seen read_at tried_at answer) None q h = absurd (true≢false h)
+    at_work_lem (Busy stage seen read_at tried_at answer) (Some k) q h = (k, q)
 
     left : (st : Status) → none_left (count rows p) r.begun st ≡ false → Announcing st → r.begun < count rows p
     left Down h x = absurd x

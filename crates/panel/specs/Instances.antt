@@ -1,19 +1,16 @@
 -- The definitions of a key at records and keys, by computation: of each condition of 21 a record that meets it and one beside it that does not
 -- (R231b to R231i); the order of the refusals (R220); which keys are idle (R226); and case f (R266), key after key.
-use Rattle.std.specs.Prelude.{ℕ, ◌+◌, ◌*◌, ◌^◌, ◌≡◌, refl, true, false, List, [], ◌∷◌, ◌++◌, map, replicate}
+use Rattle.std.specs.Prelude.{ℕ, ◌+◌, ◌*◌, ◌^◌, ◌≡◌, refl, true, false, List, [], ◌∷◌, ◌++◌, map, replicate, Option, Some, None}
 use Rattle.runfile.specs.declared.Row.{Row}
 use Rattle.runfile.specs.declared.Refusal.TheVariants as refused
 use Rattle.runfile.specs.Format.{head_size, word_size, row_size, new_place}
 use Rattle.runfile.specs.Layout.{u16_at, u32_at, marked, header_in, number_at, row_at}
 use Rattle.runfile.specs.Operations.{rows_from, table_of, row_numbered, first, count, names}
 use Rattle.runfile.specs.Refusals.{bad_field, same_fields, bad_byte, first_bad_field, first_row, first_later_row, first_byte, file_refusal}
+use Rattle.machine.specs.declared.Answer.{Answer}
 use Rattle.machine.specs.declared.Process.{Process}
 use Rattle.machine.specs.declared.Stage.TheVariants.{A1, A2, A4, A5, A6, V2, V3, V4, V5}
 use Rattle.machine.specs.declared.Answer.TheVariants.{False, True, Value, Was}
-use Rattle.machine.specs.declared.Maybe.{Maybe}
-use Rattle.machine.specs.declared.Maybe.TheVariants.{None, Is}
-use Rattle.machine.specs.declared.Opened.{Opened}
-use Rattle.machine.specs.declared.Opened.TheVariants.{Closed, Open}
 use Rattle.machine.specs.declared.Stage.{Stage}
 use Rattle.machine.specs.declared.Status.{Status}
 use Rattle.machine.specs.declared.Status.TheVariants.{Down, Idle, N2, N3, Busy}
@@ -37,56 +34,56 @@ use Rattle.panel.specs.Through.{stepping, ready}
 abbrev rows : List Row
 rows = record { process = 0; kind = 0; word = 0; old = 0; new = 0 } ∷ record { process = 0; kind = 1; word = 0; old = 7; new = 8 } ∷ []
 
-abbrev with : (begun : ℕ) → Opened → (stored : Maybe) → Status → Process
+abbrev with : (begun : ℕ) → Option ℕ → (stored : Option Answer) → Status → Process
 with begun opened stored status = record { status = status; opened = opened; stored = stored; checkpoint = false; kept = unkept; begun = begun }
 
-abbrev at : Stage → Maybe → Status
+abbrev at : Stage → Option Answer → Status
 at stage answer = Busy stage 7 0 0 answer
 
 -- one or more for each condition, in the order of R231b to R231i
 abbrev meets : List Process
 meets =
-    with 3 Closed None Idle  -- fewer rows than are begun (R231b)
-    ∷ with 2 (Open 0) None Down  -- another row open than the last one begun (R231c)
-    ∷ with 0 (Open 0) None Down
-    ∷ with 1 (Open 0) None Idle  -- a row open while idle (R231d)
-    ∷ with 1 (Open 0) None N2  -- at N2 or at N3 (R231d)
-    ∷ with 1 (Open 0) None N3
-    ∷ with 1 Closed None (at A1 None)  -- no row open in the midst of work (R231e)
-    ∷ with 2 Closed None N2  -- no row to announce (R231f)
-    ∷ with 2 Closed None N3
-    ∷ with 1 (Open 0) None (at A5 None)  -- no answer where one is needed (R231g)
-    ∷ with 1 (Open 0) (Is (Value 7)) (at A6 None)
-    ∷ with 1 (Open 0) None (at V5 None)
-    ∷ with 1 (Open 0) None (at A2 None)  -- a stage that no read has (R231h)
-    ∷ with 1 (Open 0) None (at V3 None)
-    ∷ with 1 (Open 0) None (at A5 (Is True))  -- an answer that no read gives (R231i)
-    ∷ with 1 (Open 0) (Is False) Down
-    ∷ with 1 (Open 0) (Is (Value (2 ^ width))) (at V5 None)  -- a number that is no value (R231i)
-    ∷ with 2 (Open 1) None (at A5 (Is (Value 7)))  -- and no compare (R231i)
-    ∷ with 2 (Open 1) (Is (Value 7)) Down
+    with 3 None None Idle  -- fewer rows than are begun (R231b)
+    ∷ with 2 (Some 0) None Down  -- another row open than the last one begun (R231c)
+    ∷ with 0 (Some 0) None Down
+    ∷ with 1 (Some 0) None Idle  -- a row open while idle (R231d)
+    ∷ with 1 (Some 0) None N2  -- at N2 or at N3 (R231d)
+    ∷ with 1 (Some 0) None N3
+    ∷ with 1 None None (at A1 None)  -- no row open in the midst of work (R231e)
+    ∷ with 2 None None N2  -- no row to announce (R231f)
+    ∷ with 2 None None N3
+    ∷ with 1 (Some 0) None (at A5 None)  -- no answer where one is needed (R231g)
+    ∷ with 1 (Some 0) (Some (Value 7)) (at A6 None)
+    ∷ with 1 (Some 0) None (at V5 None)
+    ∷ with 1 (Some 0) None (at A2 None)  -- a stage that no read has (R231h)
+    ∷ with 1 (Some 0) None (at V3 None)
+    ∷ with 1 (Some 0) None (at A5 (Some True))  -- an answer that no read gives (R231i)
+    ∷ with 1 (Some 0) (Some False) Down
+    ∷ with 1 (Some 0) (Some (Value (2 ^ width))) (at V5 None)  -- a number that is no value (R231i)
+    ∷ with 2 (Some 1) None (at A5 (Some (Value 7)))  -- and no compare (R231i)
+    ∷ with 2 (Some 1) (Some (Value 7)) Down
     ∷ []
 
 -- the nearest records that can be
 abbrev can_be : List Process
 can_be =
-    with 2 Closed None Idle
-    ∷ with 2 (Open 1) None Down
-    ∷ with 1 (Open 0) None Down
-    ∷ with 1 Closed None Idle
-    ∷ with 1 Closed None N2
-    ∷ with 1 Closed None N3
-    ∷ with 1 (Open 0) None (at A1 None)
-    ∷ with 1 Closed (Is True) N3
-    ∷ with 1 (Open 0) None (at A5 (Is (Value 7)))
-    ∷ with 1 (Open 0) (Is (Value 7)) (at A6 (Is (Value 7)))
-    ∷ with 1 (Open 0) (Is (Value 7)) (at V5 None)
-    ∷ with 1 (Open 0) None (at V2 None)
-    ∷ with 2 (Open 1) None (at A2 None)
-    ∷ with 2 (Open 1) None (at V3 None)
-    ∷ with 2 (Open 1) None (at A5 (Is True))
-    ∷ with 2 (Open 1) (Is False) Down
-    ∷ with 1 Closed (Is (Value 7)) Down  -- an answer left over from a row that is closed (R231i)
+    with 2 None None Idle
+    ∷ with 2 (Some 1) None Down
+    ∷ with 1 (Some 0) None Down
+    ∷ with 1 None None Idle
+    ∷ with 1 None None N2
+    ∷ with 1 None None N3
+    ∷ with 1 (Some 0) None (at A1 None)
+    ∷ with 1 None (Some True) N3
+    ∷ with 1 (Some 0) None (at A5 (Some (Value 7)))
+    ∷ with 1 (Some 0) (Some (Value 7)) (at A6 (Some (Value 7)))
+    ∷ with 1 (Some 0) (Some (Value 7)) (at V5 None)
+    ∷ with 1 (Some 0) None (at V2 None)
+    ∷ with 2 (Some 1) None (at A2 None)
+    ∷ with 2 (Some 1) None (at V3 None)
+    ∷ with 2 (Some 1) None (at A5 (Some True))
+    ∷ with 2 (Some 1) (Some False) Down
+    ∷ with 1 None (Some (Value 7)) Down  -- an answer left over from a row that is closed (R231i)
     ∷ []
 
 pub each_met : map (impossible rows 0) meets ≡ replicate 19 true
@@ -103,23 +100,23 @@ three = rows ++ (record { process = 0; kind = 2; word = 0; old = 0; new = 5 } �
 
 abbrev no_advance : List Process
 no_advance =
-    with 1 (Open 0) (Is (Was 7)) Down
-    ∷ with 2 (Open 1) (Is (Was 7)) Down
-    ∷ with 3 (Open 2) None (at A5 (Is True))
-    ∷ with 3 (Open 2) None (at A5 (Is False))
-    ∷ with 3 (Open 2) (Is (Value 7)) Down
-    ∷ with 3 (Open 2) (Is (Was (2 ^ width))) Down
+    with 1 (Some 0) (Some (Was 7)) Down
+    ∷ with 2 (Some 1) (Some (Was 7)) Down
+    ∷ with 3 (Some 2) None (at A5 (Some True))
+    ∷ with 3 (Some 2) None (at A5 (Some False))
+    ∷ with 3 (Some 2) (Some (Value 7)) Down
+    ∷ with 3 (Some 2) (Some (Was (2 ^ width))) Down
     ∷ []
 
 -- it has every stage (R231h)
 abbrev advance : List Process
 advance =
-    with 3 (Open 2) None (at A1 None)
-    ∷ with 3 (Open 2) None (at A4 None)
-    ∷ with 3 (Open 2) None (at A5 (Is (Was 7)))
-    ∷ with 3 (Open 2) (Is (Was 7)) (at A6 (Is (Was 7)))
-    ∷ with 3 (Open 2) None (at V4 None)
-    ∷ with 3 (Open 2) (Is (Was 7)) (at V5 None)
+    with 3 (Some 2) None (at A1 None)
+    ∷ with 3 (Some 2) None (at A4 None)
+    ∷ with 3 (Some 2) None (at A5 (Some (Was 7)))
+    ∷ with 3 (Some 2) (Some (Was 7)) (at A6 (Some (Was 7)))
+    ∷ with 3 (Some 2) None (at V4 None)
+    ∷ with 3 (Some 2) (Some (Was 7)) (at V5 None)
     ∷ []
 
 pub advances-judged : (map (impossible three 0) no_advance ≡ replicate 6 true) × (map (impossible three 0) advance ≡ replicate 6 false)
@@ -136,14 +133,14 @@ damaged = 83 ∷ 87 ∷ 83 ∷ 1 ∷ 0 ∷ 2 ∷ 1 ∷ 2 ∷ 0 ∷ 0 ∷ 0 ∷ 7
 
 -- a record that cannot be, at process 1, which has no row
 abbrev spoilt : List Process
-spoilt = fresh ∷ with 1 Closed None Idle ∷ []
+spoilt = fresh ∷ with 1 None None Idle ∷ []
 
 abbrev idle : List Process
 idle = fresh ∷ fresh ∷ []
 
 -- both are down
 abbrev down : List Process
-down = with 0 Closed None Down ∷ with 0 Closed None Down ∷ []
+down = with 0 None None Down ∷ with 0 None None Down ∷ []
 
 -- the number of the refusal, 0 for none
 abbrev refusal : Outcome → ℕ
@@ -186,7 +183,7 @@ pressed_by byte records = refusal (keyed file records (7 ∷ []) (replicate 5 0)
 pub idle-keys :
     (pressed_by 16 idle ∷ pressed_by 32 idle ∷ pressed_by 0 idle ∷ pressed_by 240 idle ∷ [] ≡ 0 ∷ 16 ∷ 0 ∷ 0 ∷ [])
     × (pressed_by 16 down ∷ pressed_by 32 down ∷ pressed_by 0 down ∷ pressed_by 240 down ∷ [] ≡ 16 ∷ 0 ∷ 0 ∷ 0 ∷ [])
-    × (map (λ byte. pressed_by byte (with 0 Closed None Down ∷ fresh ∷ [])) (16 ∷ 17 ∷ 32 ∷ 33 ∷ []) ≡ 16 ∷ 0 ∷ 0 ∷ 16 ∷ [])
+    × (map (λ byte. pressed_by byte (with 0 None None Down ∷ fresh ∷ [])) (16 ∷ 17 ∷ 32 ∷ 33 ∷ []) ≡ 16 ∷ 0 ∷ 0 ∷ 16 ∷ [])
     × ((keyed file idle (7 ∷ []) (replicate 5 0) (replicate 5 0) (key_of 32 0 0 0)).outcome ≡ Refused (Run refused.Idle) 0)
 unfolding keyed pressed verdict_of judged file_refusal header_in u16_at u32_at marked head_size word_size row_size new_place number_at row_at bad_field same_fields bad_byte first_bad_field first_row first_later_row first_byte table_of rows_from any_impossible impossible misplaced misdone row_numbered first count
 idle-keys = (refl, refl, refl, refl)

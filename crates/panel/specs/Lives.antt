@@ -1,6 +1,6 @@
 -- What the record of a process is like after any schedule that all began idle: no condition of 21 is met by it. By a property that says, of
 -- each stage, what the three stores and the earlier stages have left, and that a step, a crash and a wake keep.
-use Rattle.std.specs.Prelude.{ℕ, suc, ◌+◌, ◌≤◌, ◌<◌, ◌≡◌, Bool, cond, not, ◌||◌, List, eqb, get_or}
+use Rattle.std.specs.Prelude.{ℕ, suc, ◌+◌, ◌≤◌, ◌<◌, ◌≡◌, Bool, cond, not, ◌||◌, List, eqb, get_or, Option, Some, None}
 use Rattle.std.proofs.Math.Path.{refl, subst}
 use Rattle.std.proofs.Common.{sym, ◌∙◌, true≢false, arith}
 use Rattle.std.proofs.Math.Bool.{true, false}
@@ -14,15 +14,12 @@ use Rattle.runfile.specs.Kinds.{kind_of}
 use Rattle.rows.specs.declared.Entry.{Entry}
 use Rattle.word.specs.Word.{width, value, value_in, bit}
 use Rattle.word.specs.Laws.{value_own}
+use Rattle.machine.specs.declared.Answer.{Answer}
 use Rattle.machine.specs.declared.Process.{Process}
 use Rattle.machine.specs.declared.Kept.{Kept}
 use Rattle.machine.specs.declared.Stage.{Stage}
 use Rattle.machine.specs.declared.Stage.TheVariants.{A1, A2, A3, A4, A5, A6, V1, V2, V3, V4, V5, V6}
 use Rattle.machine.specs.declared.Answer.TheVariants.{False, True, Value, Was}
-use Rattle.machine.specs.declared.Maybe.{Maybe}
-use Rattle.machine.specs.declared.Maybe.TheVariants.{None, Is}
-use Rattle.machine.specs.declared.Opened.{Opened}
-use Rattle.machine.specs.declared.Opened.TheVariants.{Closed, Open}
 use Rattle.machine.specs.declared.Status.{Status}
 use Rattle.machine.specs.declared.Status.TheVariants.{Down, Idle, N2, N3, Busy}
 use Rattle.machine.specs.Turn.{Still, Quiet, Logs, Loses}
@@ -34,16 +31,16 @@ use Rattle.machine.specs.Laws.{fresh_at, closed_open, each_step}
 use Rattle.panel.specs.Possible.{read_has, has_stage, can_say, has_answer, missing, not_last, open_while, none_at, none_left, no_answer, wrong_kind, misplaced, misdone, impossible}
 
 -- of a process whose rows begin at row `first`: row k is the last of the `begun` that it has begun, and what is kept is of its kind
-pub record Last (rows : List Row) (first begun : ℕ) (stored : Maybe) (checkpoint : Bool) (k : ℕ) : Type 0 where
+pub record Last (rows : List Row) (first begun : ℕ) (stored : Option Answer) (checkpoint : Bool) (k : ℕ) : Type 0 where
   pub last : k + 1 ≡ first + begun
   pub some : 1 ≤ begun
   pub kind : has_answer (kind_of (row_numbered rows k)) stored ≡ true
   pub unchecked : has_stage (kind_of (row_numbered rows k)) V3 ≡ false → checkpoint ≡ false
 
 -- in the midst of work: a row is open, whose kind has the stage and the answer; and where an answer is needed there is one
-pub record Works (rows : List Row) (opened : Opened) (stored : Maybe) (stage : Stage) (answer : Maybe) : Type 0 where
+pub record Works (rows : List Row) (opened : Option ℕ) (stored : Option Answer) (stage : Stage) (answer : Option Answer) : Type 0 where
   pub row : ℕ
-  pub opens : opened ≡ Open row
+  pub opens : opened ≡ Some row
   pub stage_suits : has_stage (kind_of (row_numbered rows row)) stage ≡ true
   pub answer_suits : has_answer (kind_of (row_numbered rows row)) answer ≡ true
   pub answered : missing stage answer stored ≡ false
@@ -52,14 +49,14 @@ pub record Works (rows : List Row) (opened : Opened) (stored : Maybe) (stage : S
 -- stored answer and whose second the checkpoint
 abbrev pub At : List Row → (count : ℕ) → Process → Status → Type 0
 At rows count r Down = Unit
-At rows count r Idle = r.opened ≡ Closed
-At rows count r N2 = (r.opened ≡ Closed) × (r.begun < count) × (r.stored ≡ None)
-At rows count r N3 = (r.opened ≡ Closed) × (r.begun < count) × (r.stored ≡ None) × (r.checkpoint ≡ false)
+At rows count r Idle = r.opened ≡ None
+At rows count r N2 = (r.opened ≡ None) × (r.begun < count) × (r.stored ≡ None)
+At rows count r N3 = (r.opened ≡ None) × (r.begun < count) × (r.stored ≡ None) × (r.checkpoint ≡ false)
 At rows count r (Busy stage seen read_at tried_at answer) = Works rows r.opened r.stored stage answer
 
 pub record Lives (rows : List Row) (p : ℕ) (r : Process) : Type 0 where
   pub few : r.begun ≤ count rows p
-  pub opened_last : (k : ℕ) → r.opened ≡ Open k → Last rows (first rows p) r.begun r.stored r.checkpoint k
+  pub opened_last : (k : ℕ) → r.opened ≡ Some k → Last rows (first rows p) r.begun r.stored r.checkpoint k
   pub keeps : value r.kept.value ≡ r.kept.value
   pub at : At rows (count rows p) r r.status
 
@@ -92,43 +89,43 @@ module _ (rows : List Row) (p : ℕ) where
   go_on r status h a = record { few = h.few; opened_last = h.opened_last; keeps = h.keeps; at = a }
 
   -- a step in the midst of work on row k
-  module _ (t now : ℕ) (r : Process) (h : Lives rows p r) (k : ℕ) (o : r.opened ≡ Open k) where
+  module _ (t now : ℕ) (r : Process) (h : Lives rows p r) (k : ℕ) (o : r.opened ≡ Some k) where
     abbrev row : Row
     row = row_numbered rows k
 
     -- at work on that row
-    at_work_lem : (stored : Maybe) (stage : Stage) (answer : Maybe) → has_stage (kind_of row) stage ≡ true → has_answer (kind_of row) answer ≡ true → missing stage answer stored ≡ false → Works rows r.opened stored stage answer
+    at_work_lem : (stored : Option Answer) (stage : Stage) (answer : Option Answer) → has_stage (kind_of row) stage ≡ true → has_answer (kind_of row) answer ≡ true → missing stage answer stored ≡ false → Works rows r.opened stored stage answer
     at_work_lem stored stage answer s a m = record { row = k; opens = o; stage_suits = s; answer_suits = a; answered = m }
 
     kept_last : Last rows (first rows p) r.begun r.stored r.checkpoint k
     kept_last = h.opened_last k o
 
-    same_row : {j : ℕ} → r.opened ≡ Open j → k ≡ j
+    same_row : {j : ℕ} → r.opened ≡ Some j → k ≡ j
     same_row e = let z = sym o ∙ e in cc
 
     lives_read : Lives rows p (with_status (after_read row now t) r)
     lives_read = go (kind_of row) refl
       where
         go : (kind : Kind) → kind_of row ≡ kind → Lives rows p (with_status (read_by kind row.old now t) r)
-        go Read q = go_on r _ h (at_work_lem r.stored A5 (Is (Value (value now))) (rw q) (rw q (eq-eqb (value (value now)) (value now) (value_own width now))) refl)
+        go Read q = go_on r _ h (at_work_lem r.stored A5 (Some (Value (value now))) (rw q) (rw q (eq-eqb (value (value now)) (value now) (value_own width now))) refl)
         go Compare q =
-            either (λ st. Lives rows p (with_status st r)) (eqb (value now) row.old) (Busy A2 now t 0 None) (Busy A5 now t 0 (Is False))
-            (go_on r _ h (at_work_lem r.stored A2 None (rw q) refl refl)) (go_on r _ h (at_work_lem r.stored A5 (Is False) (rw q) (rw q) refl))
+            either (λ st. Lives rows p (with_status st r)) (eqb (value now) row.old) (Busy A2 now t 0 None) (Busy A5 now t 0 (Some False))
+            (go_on r _ h (at_work_lem r.stored A2 None (rw q) refl refl)) (go_on r _ h (at_work_lem r.stored A5 (Some False) (rw q) (rw q) refl))
         go Advance q = go_on r _ h (at_work_lem r.stored A2 None (rw q) refl refl)
 
     lives_tried : (seen read_at : ℕ) → has_stage (kind_of row) A4 ≡ true → Lives rows p (process_of r (tried p t row now r seen read_at))
     lives_tried seen read_at s =
         tried_leads (λ u. Lives rows p (process_of r u)) p t row now r seen read_at
-        (λ x. go_on r _ h (at_work_lem r.stored A5 (Is (swap_says (kind_of row) (value seen))) (both A5 refl (kind_of row)) (swap_said A4 refl (kind_of row) s (value seen) (value_own width seen)) refl))
+        (λ x. go_on r _ h (at_work_lem r.stored A5 (Some (swap_says (kind_of row) (value seen))) (both A5 refl (kind_of row)) (swap_said A4 refl (kind_of row) s (value seen) (value_own width seen)) refl))
         (lost (kind_of row) refl s)
       where
         lost : (kind : Kind) → kind_of row ≡ kind → has_stage kind A4 ≡ true → Lives rows p (with_status (lost_by kind seen read_at t) r)
         lost Read q s = absurd (true≢false (sym s))
-        lost Compare q s = go_on r _ h (at_work_lem r.stored A5 (Is False) (rw q) (rw q) refl)
+        lost Compare q s = go_on r _ h (at_work_lem r.stored A5 (Some False) (rw q) (rw q) refl)
         lost Advance q s = go_on r _ h (at_work_lem r.stored A1 None (rw q) refl refl)
 
     -- an answer of the row's kind is stored, at a stage of that kind
-    stores : (stage : Stage) (seen read_at tried_at : ℕ) (answer stored : Maybe) → has_stage (kind_of row) stage ≡ true → has_answer (kind_of row) answer ≡ true → missing stage answer stored ≡ false → has_answer (kind_of row) stored ≡ true
+    stores : (stage : Stage) (seen read_at tried_at : ℕ) (answer stored : Option Answer) → has_stage (kind_of row) stage ≡ true → has_answer (kind_of row) answer ≡ true → missing stage answer stored ≡ false → has_answer (kind_of row) stored ≡ true
         → Lives rows p (with_stored (Busy stage seen read_at tried_at answer) stored r)
     stores stage seen read_at tried_at answer stored s a m k-ok = record {
       few = h.few;
@@ -137,13 +134,13 @@ module _ (rows : List Row) (p : ℕ) where
       at = at_work_lem stored stage answer s a m;
     }
 
-    next_is : (next : Process) (seen read_at tried_at : ℕ) (answer : Maybe) → process_of r (storing row next seen read_at tried_at answer) ≡ next
+    next_is : (next : Process) (seen read_at tried_at : ℕ) (answer : Option Answer) → process_of r (storing row next seen read_at tried_at answer) ≡ next
     unfolding storing_in
     next_is next seen read_at tried_at None = refl
-    next_is next seen read_at tried_at (Is True) = refl
-    next_is next seen read_at tried_at (Is (Was v)) = refl
-    next_is next seen read_at tried_at (Is (Value v)) = refl
-    next_is next seen read_at tried_at (Is False) = go (eqb (value seen) row.old)
+    next_is next seen read_at tried_at (Some True) = refl
+    next_is next seen read_at tried_at (Some (Was v)) = refl
+    next_is next seen read_at tried_at (Some (Value v)) = refl
+    next_is next seen read_at tried_at (Some False) = go (eqb (value seen) row.old)
       where
         go : (c : Bool) → process_of r (cond c (Loses next read_at tried_at) (Logs next read_at False)) ≡ next
         go true = refl
@@ -153,11 +150,11 @@ module _ (rows : List Row) (p : ℕ) where
     ends : Lives rows p (closed r)
     ends = record { few = h.few; opened_last = λ j e. closed_open e; keeps = h.keeps; at = refl }
 
-    lives_recovered : (stored : Maybe) → r.stored ≡ stored → (seen read_at tried_at : ℕ) (answer : Maybe) → has_answer (kind_of row) answer ≡ true → Lives rows p (with_status (Busy (recovered stored) seen read_at tried_at answer) r)
+    lives_recovered : (stored : Option Answer) → r.stored ≡ stored → (seen read_at tried_at : ℕ) (answer : Option Answer) → has_answer (kind_of row) answer ≡ true → Lives rows p (with_status (Busy (recovered stored) seen read_at tried_at answer) r)
     lives_recovered None q seen read_at tried_at answer a = go_on r _ h (at_work_lem r.stored V2 answer (both V2 refl (kind_of row)) a refl)
-    lives_recovered (Is x) q seen read_at tried_at answer a = go_on r _ h (at_work_lem r.stored V5 answer (both V5 refl (kind_of row)) a (rw q refl))
+    lives_recovered (Some x) q seen read_at tried_at answer a = go_on r _ h (at_work_lem r.stored V5 answer (both V5 refl (kind_of row)) a (rw q refl))
 
-    lives_checked : (checkpoint : Bool) → r.checkpoint ≡ checkpoint → (seen read_at tried_at : ℕ) (answer : Maybe) → has_answer (kind_of row) answer ≡ true → Lives rows p (with_status (Busy (cond checkpoint V3 V6) seen read_at tried_at answer) r)
+    lives_checked : (checkpoint : Bool) → r.checkpoint ≡ checkpoint → (seen read_at tried_at : ℕ) (answer : Option Answer) → has_answer (kind_of row) answer ≡ true → Lives rows p (with_status (Busy (cond checkpoint V3 V6) seen read_at tried_at answer) r)
     lives_checked true q seen read_at tried_at answer a = go_on r _ h (at_work_lem r.stored V3 answer (go (has_stage (kind_of row) V3) refl) a refl)
       where
         go : (c : Bool) → has_stage (kind_of row) V3 ≡ c → has_stage (kind_of row) V3 ≡ true
@@ -165,11 +162,11 @@ module _ (rows : List Row) (p : ℕ) where
         go false e = absurd (true≢false (sym q ∙ kept_last.unchecked e))
     lives_checked false q seen read_at tried_at answer a = go_on r _ h (at_work_lem r.stored V6 answer (both V6 refl (kind_of row)) a refl)
 
-    lives_compared : (c : Bool) (read_at tried_at : ℕ) (answer : Maybe) → has_stage (kind_of row) V3 ≡ true → has_answer (kind_of row) answer ≡ true → Lives rows p (with_status (Busy (cond c V4 V6) now read_at tried_at answer) r)
+    lives_compared : (c : Bool) (read_at tried_at : ℕ) (answer : Option Answer) → has_stage (kind_of row) V3 ≡ true → has_answer (kind_of row) answer ≡ true → Lives rows p (with_status (Busy (cond c V4 V6) now read_at tried_at answer) r)
     lives_compared true read_at tried_at answer s a = go_on r _ h (at_work_lem r.stored V4 answer (has_all V3 refl (kind_of row) s V4) a refl)
     lives_compared false read_at tried_at answer s a = go_on r _ h (at_work_lem r.stored V6 answer (both V6 refl (kind_of row)) a refl)
 
-    lives_decide : (stage : Stage) (seen read_at tried_at : ℕ) (answer : Maybe) → has_stage (kind_of row) stage ≡ true → has_answer (kind_of row) answer ≡ true → missing stage answer r.stored ≡ false
+    lives_decide : (stage : Stage) (seen read_at tried_at : ℕ) (answer : Option Answer) → has_stage (kind_of row) stage ≡ true → has_answer (kind_of row) answer ≡ true → missing stage answer r.stored ≡ false
         → Lives rows p (process_of r (decide row p t now r stage seen read_at tried_at answer))
     unfolding decide_in
     lives_decide A1 seen read_at tried_at answer s a m = lives_read
@@ -192,7 +189,7 @@ module _ (rows : List Row) (p : ℕ) where
     lives_decide V1 seen read_at tried_at answer s a m = lives_recovered r.stored refl seen read_at tried_at answer a
     lives_decide V2 seen read_at tried_at answer s a m = lives_checked r.checkpoint refl seen read_at tried_at answer a
     lives_decide V3 seen read_at tried_at answer s a m = lives_compared (same_bit (bit p now) r.kept.bit) read_at tried_at answer s a
-    lives_decide V4 seen read_at tried_at answer s a m = stores V5 seen read_at tried_at answer (Is (recalled row r.kept)) (both V5 refl (kind_of row)) a refl (swap_said V4 refl (kind_of row) s r.kept.value h.keeps)
+    lives_decide V4 seen read_at tried_at answer s a m = stores V5 seen read_at tried_at answer (Some (recalled row r.kept)) (both V5 refl (kind_of row)) a refl (swap_said V4 refl (kind_of row) s r.kept.value h.keeps)
     lives_decide V5 seen read_at tried_at answer s a m = ends
     lives_decide V6 seen read_at tried_at answer s a m = ends
 
@@ -201,12 +198,12 @@ module _ (rows : List Row) (p : ℕ) where
   unfolding turn_in step_turn_in
   lives_turn t words log r h = go r.status refl h.at
     where
-      start : (c : Bool) → ltb r.begun (count rows p) ≡ c → r.opened ≡ Closed → Lives rows p (process_of r (cond c (Quiet (with_stored N2 None r)) Still))
+      start : (c : Bool) → ltb r.begun (count rows p) ≡ c → r.opened ≡ None → Lives rows p (process_of r (cond c (Quiet (with_stored N2 None r)) Still))
       start true l o = record { few = h.few; opened_last = λ j e. closed_open (sym o ∙ e); keeps = h.keeps; at = (o, ltb-true r.begun (count rows p) l, refl) }
       start false l o = h
 
       -- the third store opens the row, with what the first two have cleared
-      opens : (r.opened ≡ Closed) × (r.begun < count rows p) × (r.stored ≡ None) × (r.checkpoint ≡ false) → Lives rows p (started (first rows p + r.begun) r)
+      opens : (r.opened ≡ None) × (r.begun < count rows p) × (r.stored ≡ None) × (r.checkpoint ≡ false) → Lives rows p (started (first rows p + r.begun) r)
       opens a = record {
         few = a.1;
         opened_last = λ j e. subst (Last rows (first rows p) (suc r.begun) r.stored r.checkpoint) (same e)
@@ -215,13 +212,13 @@ module _ (rows : List Row) (p : ℕ) where
         at = record { row = first rows p + r.begun; opens = refl; stage_suits = both A1 refl (kind_of (row_numbered rows (first rows p + r.begun))); answer_suits = refl; answered = refl };
       }
         where
-          same : {j : ℕ} → Open (first rows p + r.begun) ≡ Open j → first rows p + r.begun ≡ j
+          same : {j : ℕ} → Some (first rows p + r.begun) ≡ Some j → first rows p + r.begun ≡ j
           same e = cc
 
-      work : (o : Opened) → r.opened ≡ o → (stage : Stage) (seen read_at tried_at : ℕ) (answer : Maybe) → Works rows r.opened r.stored stage answer
+      work : (o : Option ℕ) → r.opened ≡ o → (stage : Stage) (seen read_at tried_at : ℕ) (answer : Option Answer) → Works rows r.opened r.stored stage answer
           → Lives rows p (process_of r (at_work (row_numbered rows (row_open o)) p t (get_or words (row_numbered rows (row_open o)).word 0) r o stage seen read_at tried_at answer))
-      work Closed q stage seen read_at tried_at answer w = h
-      work (Open k) q stage seen read_at tried_at answer w =
+      work None q stage seen read_at tried_at answer w = h
+      work (Some k) q stage seen read_at tried_at answer w =
           let e : w.row ≡ k = (let z = sym w.opens ∙ q in cc) in
           lives_decide t _ r h k q stage seen read_at tried_at answer
           (subst (λ k. has_stage (kind_of (row_numbered rows k)) stage ≡ true) e w.stage_suits)
@@ -242,9 +239,9 @@ module _ (rows : List Row) (p : ℕ) where
   lives_waked : (r : Process) (status : Status) → Lives rows p r → Lives rows p (waked r status)
   lives_waked r Down h = go_on r _ h (go r.opened refl)
     where
-      go : (o : Opened) → r.opened ≡ o → At rows (count rows p) (with_status (woken_up o) r) (woken_up o)
-      go Closed q = q
-      go (Open k) q = record { row = k; opens = q; stage_suits = both V1 refl (kind_of (row_numbered rows k)); answer_suits = refl; answered = refl }
+      go : (o : Option ℕ) → r.opened ≡ o → At rows (count rows p) (with_status (woken_up o) r) (woken_up o)
+      go None q = q
+      go (Some k) q = record { row = k; opens = q; stage_suits = both V1 refl (kind_of (row_numbered rows k)); answer_suits = refl; answered = refl }
   lives_waked r Idle h = h
   lives_waked r N2 h = h
   lives_waked r N3 h = h
@@ -264,9 +261,9 @@ lives_begin rows P words q = rw (fresh_at P q) (lives_fresh rows q)
 
 -- none of the conditions of 21 (R231b to R231i)
 module _ (rows : List Row) (p : ℕ) (r : Process) (h : Lives rows p r) where
-  last_begun : (o : Opened) → r.opened ≡ o → not_last (first rows p) r.begun o ≡ false
-  last_begun Closed q = refl
-  last_begun (Open k) q =
+  last_begun : (o : Option ℕ) → r.opened ≡ o → not_last (first rows p) r.begun o ≡ false
+  last_begun None q = refl
+  last_begun (Some k) q =
       let l = h.opened_last k q in
       let ne : r.begun ≡ 0 → ⊥ = λ e. (let s = l.some in omega arith) in
       rw (ne_eqb r.begun 0 ne, eq-eqb (k + 1) (first rows p + r.begun) l.last) refl
@@ -283,17 +280,17 @@ module _ (rows : List Row) (p : ℕ) (r : Process) (h : Lives rows p r) where
   not_misplaced = rw (le-ltb (count rows p) r.begun h.few, last_begun r.opened refl) (placed r.status h.at)
 
   -- of the row that is open the kind is asked; with none open there is nothing that could be wrong
-  rightly : (o : Opened) → r.opened ≡ o → (status : Status) → At rows (count rows p) r status → (no_answer r.stored status || wrong_kind (kind_of (row_numbered rows (row_open o))) o r.stored status) ≡ false
-  rightly Closed q Down a = refl
-  rightly Closed q Idle a = refl
-  rightly Closed q N2 a = refl
-  rightly Closed q N3 a = refl
-  rightly Closed q (Busy stage seen read_at tried_at answer) w = closed_open (sym q ∙ w.opens)
-  rightly (Open k) q Down a = rw (h.opened_last k q).kind refl
-  rightly (Open k) q Idle a = closed_open (sym a ∙ q)
-  rightly (Open k) q N2 a = closed_open (sym a.0 ∙ q)
-  rightly (Open k) q N3 a = closed_open (sym a.0 ∙ q)
-  rightly (Open k) q (Busy stage seen read_at tried_at answer) w =
+  rightly : (o : Option ℕ) → r.opened ≡ o → (status : Status) → At rows (count rows p) r status → (no_answer r.stored status || wrong_kind (kind_of (row_numbered rows (row_open o))) o r.stored status) ≡ false
+  rightly None q Down a = refl
+  rightly None q Idle a = refl
+  rightly None q N2 a = refl
+  rightly None q N3 a = refl
+  rightly None q (Busy stage seen read_at tried_at answer) w = closed_open (sym q ∙ w.opens)
+  rightly (Some k) q Down a = rw (h.opened_last k q).kind refl
+  rightly (Some k) q Idle a = closed_open (sym a ∙ q)
+  rightly (Some k) q N2 a = closed_open (sym a.0 ∙ q)
+  rightly (Some k) q N3 a = closed_open (sym a.0 ∙ q)
+  rightly (Some k) q (Busy stage seen read_at tried_at answer) w =
       let e : w.row ≡ k = (let z = sym w.opens ∙ q in cc) in
       rw (
         w.answered,

@@ -1,5 +1,5 @@
 -- Which records the panel refuses under 21: a definition for each of R231b to R231i. `first` is the process's first row, `count` how many it has.
-use Rattle.std.specs.Prelude.{ℕ, zero, suc, ◌+◌, Bool, true, false, not, ◌||◌, List, eqb, leb, ltb, get_or}
+use Rattle.std.specs.Prelude.{ℕ, zero, suc, ◌+◌, Bool, true, false, not, ◌||◌, List, eqb, leb, ltb, get_or, Option, Some, None}
 use Rattle.runfile.specs.declared.Row.{Row}
 use Rattle.word.specs.Word.{value}
 use Rattle.runfile.specs.Operations.{row_numbered, first, count}
@@ -11,10 +11,6 @@ use Rattle.machine.specs.declared.Stage.{Stage}
 use Rattle.machine.specs.declared.Stage.TheVariants.{A1, A2, A3, A4, A5, A6, V1, V2, V3, V4, V5, V6}
 use Rattle.machine.specs.declared.Answer.{Answer}
 use Rattle.machine.specs.declared.Answer.TheVariants.{False, True, Value, Was}
-use Rattle.machine.specs.declared.Maybe.{Maybe}
-use Rattle.machine.specs.declared.Maybe.TheVariants.{None, Is}
-use Rattle.machine.specs.declared.Opened.{Opened}
-use Rattle.machine.specs.declared.Opened.TheVariants.{Closed, Open}
 use Rattle.machine.specs.declared.Status.{Status}
 use Rattle.machine.specs.declared.Status.TheVariants.{Down, Idle, N2, N3, Busy}
 use Rattle.machine.specs.Records.{nobody, row_open}
@@ -64,29 +60,29 @@ can_say Read answer = read_says answer
 can_say Compare answer = compare_says answer
 can_say Advance answer = advance_says answer
 
-abbrev pub has_answer : Kind → Maybe → Bool
+abbrev pub has_answer : Kind → Option Answer → Bool
 has_answer kind None = true
-has_answer kind (Is answer) = can_say kind answer
+has_answer kind (Some answer) = can_say kind answer
 
-abbrev pub is_none : Maybe → Bool
+abbrev pub is_none : Option Answer → Bool
 is_none None = true
-is_none (Is a) = false
+is_none (Some a) = false
 
-abbrev pub is_open : Opened → Bool
-is_open Closed = false
-is_open (Open k) = true
+abbrev pub is_open : Option ℕ → Bool
+is_open None = false
+is_open (Some k) = true
 
 -- there are fewer rows for the process than it has begun (R231b)
 abbrev pub too_many : (count begun : ℕ) → Bool
 too_many count begun = ltb count begun
 
 -- the open row is another than the last one begun (R231c)
-abbrev pub not_last : (first begun : ℕ) → Opened → Bool
-not_last first begun Closed = false
-not_last first begun (Open k) = eqb begun 0 || not (eqb (k + 1) (first + begun))
+abbrev pub not_last : (first begun : ℕ) → Option ℕ → Bool
+not_last first begun None = false
+not_last first begun (Some k) = eqb begun 0 || not (eqb (k + 1) (first + begun))
 
 -- a row is open where none can be: idle, at N2 or at N3 (R231d)
-abbrev pub open_while : Opened → Status → Bool
+abbrev pub open_while : Option ℕ → Status → Bool
 open_while opened Down = false
 open_while opened Idle = is_open opened
 open_while opened N2 = is_open opened
@@ -94,7 +90,7 @@ open_while opened N3 = is_open opened
 open_while opened (Busy stage seen read_at tried_at answer) = false
 
 -- no row is open in the midst of work (R231e)
-abbrev pub none_at : Opened → Status → Bool
+abbrev pub none_at : Option ℕ → Status → Bool
 none_at opened Down = false
 none_at opened Idle = false
 none_at opened N2 = false
@@ -110,7 +106,7 @@ none_left count begun N3 = leb count begun
 none_left count begun (Busy stage seen read_at tried_at answer) = false
 
 -- the stage needs an answer and there is none: A5 and A6 need the answer to store, V5 the stored one (R231g)
-abbrev pub missing : Stage → (answer stored : Maybe) → Bool
+abbrev pub missing : Stage → (answer stored : Option Answer) → Bool
 missing A1 answer stored = false
 missing A2 answer stored = false
 missing A3 answer stored = false
@@ -124,7 +120,7 @@ missing V4 answer stored = false
 missing V5 answer stored = is_none stored
 missing V6 answer stored = false
 
-abbrev pub no_answer : Maybe → Status → Bool
+abbrev pub no_answer : Option Answer → Status → Bool
 no_answer stored Down = false
 no_answer stored Idle = false
 no_answer stored N2 = false
@@ -139,9 +135,9 @@ wrong_work kind N2 = false
 wrong_work kind N3 = false
 wrong_work kind (Busy stage seen read_at tried_at answer) = not (has_stage kind stage) || not (has_answer kind answer)
 
-abbrev pub wrong_kind : Kind → Opened → Maybe → Status → Bool
-wrong_kind kind Closed stored status = false
-wrong_kind kind (Open k) stored status = not (has_answer kind stored) || wrong_work kind status
+abbrev pub wrong_kind : Kind → Option ℕ → Option Answer → Status → Bool
+wrong_kind kind None stored status = false
+wrong_kind kind (Some k) stored status = not (has_answer kind stored) || wrong_work kind status
 
 -- what is wrong with a record by its counts and its open row, and by what it does on it
 unfoldable pub misplaced : (first count : ℕ) → Process → Bool

@@ -11,7 +11,7 @@ ghost use Rattle.panel.specs.Press as press;
 
 use super::possible::{misdone, misplaced};
 use super::{Stroke, Table, Verdict, Why};
-use machine::{Opened, Process, Status};
+use machine::{Process, Status};
 use runfile::{Checked, Header, Kind, Refusal, Room};
 
 // Whether a record cannot be, whose process has `count` rows from row `first` on (R231b to R231i).
@@ -32,8 +32,8 @@ fn is_impossible(
     let opened = process.opened;
     match opened {
         // With no row open no kind is asked for (R231i).
-        Opened::Closed => misdone(Kind::Read, process),
-        Opened::Open(k) => {
+        None => misdone(Kind::Read, process),
+        Some(k) => {
             let row = runfile::row_at(table, stride, runfile::index16(k));
             misdone(runfile::kind_of(row), process)
         }

@@ -2,7 +2,7 @@
 ghost use Rattle.std.specs.Prelude.{◌≡◌, ◌+◌, ◌<◌};
 ghost use Rattle.panel.specs.Possible as possible;
 
-use machine::{Answer, Maybe, Opened, Process, Stage, Status};
+use machine::{Answer, Process, Stage, Status};
 use runfile::Kind;
 
 // The stages of a read (R231h).
@@ -69,10 +69,10 @@ fn advance_says(answer: Answer) -> bool
     }
 }
 
-fn has_answer(kind: Kind, answer: Maybe) -> bool
+fn has_answer(kind: Kind, answer: Option<Answer>) -> bool
     ensures { result ≡ possible.has_answer kind answer }
 {
-    let Maybe::Is(said) = answer else {
+    let Some(said) = answer else {
         return true;
     };
     match kind {
@@ -82,31 +82,31 @@ fn has_answer(kind: Kind, answer: Maybe) -> bool
     }
 }
 
-fn is_none(answer: Maybe) -> bool
+fn is_none(answer: Option<Answer>) -> bool
     ensures { result ≡ possible.is_none answer }
 {
     match answer {
-        Maybe::None => true,
-        Maybe::Is(_) => false,
+        None => true,
+        Some(_) => false,
     }
 }
 
-fn is_open(opened: Opened) -> bool
+fn is_open(opened: Option<u16>) -> bool
     ensures { result ≡ possible.is_open opened }
 {
     match opened {
-        Opened::Closed => false,
-        Opened::Open(_) => true,
+        None => false,
+        Some(_) => true,
     }
 }
 
 // The open row is another than the last one begun (R231c). The sums are taken wide, since a lent record may hold any numbers.
-fn not_last(first: u16, begun: u16, opened: Opened) -> bool
+fn not_last(first: u16, begun: u16, opened: Option<u16>) -> bool
     ensures { result ≡ possible.not_last first begun opened }
 {
     match opened {
-        Opened::Closed => false,
-        Opened::Open(k) => {
+        None => false,
+        Some(k) => {
             if begun == 0 {
                 return true;
             }
@@ -116,7 +116,7 @@ fn not_last(first: u16, begun: u16, opened: Opened) -> bool
 }
 
 // A row is open where none can be: idle, at N2 or at N3 (R231d).
-fn open_while(opened: Opened, status: Status) -> bool
+fn open_while(opened: Option<u16>, status: Status) -> bool
     ensures { result ≡ possible.open_while opened status }
 {
     match status {
@@ -135,7 +135,7 @@ fn open_while(opened: Opened, status: Status) -> bool
 }
 
 // No row is open in the midst of work (R231e).
-fn none_at(opened: Opened, status: Status) -> bool
+fn none_at(opened: Option<u16>, status: Status) -> bool
     ensures { result ≡ possible.none_at opened status }
 {
     match status {
@@ -173,7 +173,7 @@ fn none_left(count: u16, begun: u16, status: Status) -> bool
 }
 
 // The stage needs an answer and there is none (R231g).
-fn missing(stage: Stage, answer: Maybe, stored: Maybe) -> bool
+fn missing(stage: Stage, answer: Option<Answer>, stored: Option<Answer>) -> bool
     ensures { result ≡ possible.missing stage answer stored }
 {
     match stage {
@@ -192,7 +192,7 @@ fn missing(stage: Stage, answer: Maybe, stored: Maybe) -> bool
     }
 }
 
-fn no_answer(stored: Maybe, status: Status) -> bool
+fn no_answer(stored: Option<Answer>, status: Status) -> bool
     ensures { result ≡ possible.no_answer stored status }
 {
     match status {
@@ -235,12 +235,12 @@ fn wrong_work(kind: Kind, status: Status) -> bool
 }
 
 // The same, with the answer that is stored for the open row (R231i).
-fn wrong_kind(kind: Kind, opened: Opened, stored: Maybe, status: Status) -> bool
+fn wrong_kind(kind: Kind, opened: Option<u16>, stored: Option<Answer>, status: Status) -> bool
     ensures { result ≡ possible.wrong_kind kind opened stored status }
 {
     match opened {
-        Opened::Closed => false,
-        Opened::Open(_) => {
+        None => false,
+        Some(_) => {
             if has_answer(kind, stored) {
                 return wrong_work(kind, status);
             }

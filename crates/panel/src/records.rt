@@ -3,7 +3,7 @@ ghost use Rattle.std.specs.Prelude.{◌≡◌, ◌<◌, ◌≤◌, min, length, 
 ghost use Rattle.machine.specs.Records.{nobody};
 ghost use Rattle.panel.specs.Laid.{blank, laid};
 
-use machine::{Kept, Maybe, Opened, Process, Status};
+use machine::{Kept, Process, Status};
 
 // How many of the lent records are looked at (R205).
 pub fn held(length: usize) -> usize
@@ -21,8 +21,8 @@ fn empty() -> [Process; 16]
 {
     let process = Process {
         status: Status::Down,
-        opened: Opened::Closed,
-        stored: Maybe::None,
+        opened: None,
+        stored: None,
         checkpoint: false,
         kept: Kept {
             bit: false,

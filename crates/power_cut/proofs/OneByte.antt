@@ -2,7 +2,7 @@
 -- other record changes, and an answer row that is added is of the row that the process had open.
 use Prim.Native.Nat.{ℕ, suc, ◌<◌}
 use Rattle.std.proofs.Math.Path.{◌≡◌, refl, sym, ap}
-use Rattle.std.proofs.Common.{◌∙◌, subst, append-nil, arith}
+use Rattle.std.proofs.Common.{◌∙◌, subst, append-nil, arith, Option, Some, None, ℕ}
 use Rattle.std.specs.Prelude.{Bool, List, [], ◌∷◌}
 use Rattle.std.proofs.Math.Bool.{true, false}
 use Rattle.std.proofs.Math.Dec.{ltb}
@@ -12,11 +12,9 @@ use Rattle.runfile.specs.declared.Row.{Row}
 use Rattle.runfile.specs.Operations.{row_numbered, first, count}
 use Rattle.runfile.specs.Actions.{Action, step as steps, wake as wakes, action, named}
 use Rattle.word.specs.Word.{bit}
+use Rattle.machine.specs.declared.Answer.{Answer}
 use Rattle.machine.specs.declared.Process.{Process}
 use Rattle.machine.specs.declared.Stage.{Stage}
-use Rattle.machine.specs.declared.Maybe.{Maybe}
-use Rattle.machine.specs.declared.Opened.{Opened}
-use Rattle.machine.specs.declared.Opened.TheVariants.{Closed, Open}
 use Rattle.machine.specs.declared.Status.{Status}
 use Rattle.machine.specs.declared.Status.TheVariants.{Down, Idle, N2, N3, Busy}
 use Rattle.machine.specs.Turn.{Turn}
@@ -66,13 +64,13 @@ module _ (rows : List Row) where
           done = ap (to_do_at rows p s.words r) e ∙ ap (λ l. wakes ∷ l) (sym (rest r.opened));
         }
       where
-        fits : (o : Opened) → Recovering (woken_up o) o
-        fits Closed = refl
-        fits (Open k) = (tt, (k, refl))
+        fits : (o : Option ℕ) → Recovering (woken_up o) o
+        fits None = refl
+        fits (Some k) = (tt, (k, refl))
 
-        rest : (o : Opened) → to_do_at rows p s.words (with_status (woken_up o) r) (woken_up o) ≡ replicate (steps_for o r.stored r.checkpoint (kept_bit rows p s.words r)) steps
-        rest Closed = refl
-        rest (Open k) = refl
+        rest : (o : Option ℕ) → to_do_at rows p s.words (with_status (woken_up o) r) (woken_up o) ≡ replicate (steps_for o r.stored r.checkpoint (kept_bit rows p s.words r)) steps
+        rest None = refl
+        rest (Some k) = refl
 
     -- at a stage of recovery, with n more to go
     left-to_do : (n : ℕ) (next : Process) → next.opened ≡ r.opened → (st : Status) → ToGo p now n next st → to_do_at rows p s.words next st ≡ replicate n steps
@@ -84,14 +82,14 @@ module _ (rows : List Row) where
         ap (λ o. replicate (left stage next.stored next.checkpoint (same_bit (bit p (get_or s.words (row_numbered rows (row_open o)).word 0)) next.kept.bit)) steps) o
         ∙ ap (λ n. replicate n steps) h.1
 
-    still_fit : (n k : ℕ) (next : Process) → next.opened ≡ Open k → (st : Status) → ToGo p now n next st → Recovering st next.opened
+    still_fit : (n k : ℕ) (next : Process) → next.opened ≡ Some k → (st : Status) → ToGo p now n next st → Recovering st next.opened
     still_fit n k next o Down h = absurd h
     still_fit n k next o Idle h = absurd h
     still_fit n k next o N2 h = absurd h
     still_fit n k next o N3 h = absurd h
     still_fit n k next o (Busy stage seen read_at tried_at answer) h = (h.0, (k, o))
 
-    carried : (n k w : ℕ) (u : Turn) → r.opened ≡ Open k → to_do rows p s ≡ replicate (suc n) steps → Mended p now n r u → Heals rows steps p s (applied p (move_of rows s.log p t (row_open r.opened) w r u) s)
+    carried : (n k w : ℕ) (u : Turn) → r.opened ≡ Some k → to_do rows p s ≡ replicate (suc n) steps → Mended p now n r u → Heals rows steps p s (applied p (move_of rows s.log p t (row_open r.opened) w r u) s)
     unfolding applied apply
     carried n k w u o d (on next eo eb g) =
         record {
@@ -115,7 +113,7 @@ module _ (rows : List Row) where
           log = refl;
           new = entry t p (row_open r.opened) said ∷ [];
           answers = refl;
-          told = (subst (λ o. o ≡ Open (row_open o)) (sym o) refl, tt);
+          told = (subst (λ o. o ≡ Some (row_open o)) (sym o) refl, tt);
           begun = refl;
           opened = λ j q. absurd (let y : ◌≡◌ {A = ℕ} 0 1 = cc in omega arith);
           fit = refl;
@@ -123,7 +121,7 @@ module _ (rows : List Row) where
         }
 
     -- what a step comes to at a stage
-    turns : (stage : Stage) (seen read_at tried_at : ℕ) (answer : Maybe) (k : ℕ) → r.status ≡ Busy stage seen read_at tried_at answer → r.opened ≡ Open k
+    turns : (stage : Stage) (seen read_at tried_at : ℕ) (answer : Option Answer) (k : ℕ) → r.status ≡ Busy stage seen read_at tried_at answer → r.opened ≡ Some k
         → step_turn row p t now (first rows p) (count rows p) r r.status ≡ decide row p t now r stage seen read_at tried_at answer
     unfolding step_turn_in
     turns stage seen read_at tried_at answer k e o = ap (step_turn row p t now (first rows p) (count rows p) r) e ∙ working row p t now r r.opened k stage seen read_at tried_at answer o
@@ -137,7 +135,7 @@ module _ (rows : List Row) where
     step_heals N3 e f down idle = absurd f
     step_heals (Busy stage seen read_at tried_at answer) e f down idle = go (left_some stage r.stored r.checkpoint (kept_bit rows p s.words r) f.0) f.1
       where
-        go : (n : ℕ) × (left stage r.stored r.checkpoint (kept_bit rows p s.words r) ≡ suc n) → (k : ℕ) × (r.opened ≡ Open k) → Heals rows steps p s (act rows t steps p s)
+        go : (n : ℕ) × (left stage r.stored r.checkpoint (kept_bit rows p s.words r) ≡ suc n) → (k : ℕ) × (r.opened ≡ Some k) → Heals rows steps p s (act rows t steps p s)
         go (n, l) (k, o) =
             carried n k row.word (step_turn row p t now (first rows p) (count rows p) r r.status) o
             (ap (to_do_at rows p s.words r) e ∙ ap (λ n. replicate n steps) l)

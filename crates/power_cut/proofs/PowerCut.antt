@@ -1,16 +1,12 @@
 -- What a power cut leaves (change request 11), of the bench machine, for all rows that pass the refusals, all start words and all bytes before the cut.
 -- Recovery touches neither words nor log and closes every open row (`Through.antt`); and what demand 3's invariant says of an operation that has
 -- ended, that it has one answer row and stands in the log with that answer or not at all, it says of the state at the end.
-use Rattle.std.specs.Prelude.{ℕ, suc, ◌+◌, ◌≤◌, ◌<◌, ◌≡◌, refl, Bool, true, false, List, ◌∷◌, ◌++◌, ltb, length, replicate}
+use Rattle.std.specs.Prelude.{ℕ, suc, ◌+◌, ◌≤◌, ◌<◌, ◌≡◌, refl, Bool, true, false, List, ◌∷◌, ◌++◌, ltb, length, replicate, Option, Some, None}
 use Rattle.std.proofs.Math.Path.{sym, ap}
 use Rattle.std.proofs.Common.{◌∙◌, subst, arith, zero-add, ltb-true, ltb-false}
 use Rattle.runfile.specs.declared.Row.{Row}
 use Rattle.runfile.specs.Actions.{step as steps, wake as wakes, named}
 use Rattle.runfile.specs.Operations.{row_numbered, count}
-use Rattle.machine.specs.declared.Maybe.{Maybe}
-use Rattle.machine.specs.declared.Maybe.TheVariants.{None, Is}
-use Rattle.machine.specs.declared.Opened.{Opened}
-use Rattle.machine.specs.declared.Opened.TheVariants.{Closed, Open}
 use Rattle.machine.specs.Machine.{State, apply, proc_at, act_in, step, step_in, after, after_in, begin}
 use Rattle.machine.specs.Laws.{after_join, closed_open}
 use Rattle.replay.specs.Lists.{All, all_map, keep_join}
@@ -29,10 +25,11 @@ use Rattle.power_cut.specs.Through.{Healed, with_cuts}
 use Rattle.power_cut.proofs.Through.{healed_with_cuts}
 use Rattle.power_cut.proofs.Through as bytewise
 use Rattle.power_cut.specs.InTurn.{in_turn_done, in_turn-named}
+use Rattle.machine.specs.declared.Answer.{Answer}
 
-few_steps : (stored : Maybe) (checkpoint same : Bool) → steps_by stored checkpoint same ≤ 5
+few_steps : (stored : Option Answer) (checkpoint same : Bool) → steps_by stored checkpoint same ≤ 5
 unfolding steps_by
-few_steps (Is a) checkpoint same = omega arith
+few_steps (Some a) checkpoint same = omega arith
 few_steps None false same = omega arith
 few_steps None true false = omega arith
 few_steps None true true = omega arith
@@ -73,9 +70,9 @@ module _ (rows : List Row) (words : List ℕ) (P : ℕ) (plan : Plan P (length w
   few : (p : ℕ) → needed rows cut p ≤ 5
   few p = go (proc_at p cut).opened
     where
-      go : (o : Opened) → steps_for o (proc_at p cut).stored (proc_at p cut).checkpoint (kept_bit rows p cut.words (proc_at p cut)) ≤ 5
-      go Closed = omega arith
-      go (Open k) = few_steps (proc_at p cut).stored (proc_at p cut).checkpoint (kept_bit rows p cut.words (proc_at p cut))
+      go : (o : Option ℕ) → steps_for o (proc_at p cut).stored (proc_at p cut).checkpoint (kept_bit rows p cut.words (proc_at p cut)) ≤ 5
+      go None = omega arith
+      go (Some k) = few_steps (proc_at p cut).stored (proc_at p cut).checkpoint (kept_bit rows p cut.words (proc_at p cut))
 
   there : (p : ℕ) → p < P → p < length cut.processes
   there p l = subst (λ n. p < n) (sym (known before).size) l
@@ -86,14 +83,14 @@ module _ (rows : List Row) (words : List ℕ) (P : ℕ) (plan : Plan P (length w
   to_do_lem p l = ap (λ r. to_do_at rows p dark.words r r.status) (down rows at cut p (there p l))
 
   -- a process that has a row open is there, and the row is one of its own
-  open_there : (p k : ℕ) → (proc_at p cut).opened ≡ Open k → p < P
+  open_there : (p k : ℕ) → (proc_at p cut).opened ≡ Some k → p < P
   open_there p k o = go (ltb p P) refl
     where
       go : (c : Bool) → ltb p P ≡ c → p < P
       go true e = ltb-true p P e
       go false e = closed_open (sym (ap (λ r. r.opened) (absent rows at cut p (subst (λ n. n ≤ p) (sym (known before).size) (ltb-false p P e))).1) ∙ o)
 
-  open_own : (p k : ℕ) → (proc_at p cut).opened ≡ Open k → owner_of rows k ≡ p
+  open_own : (p k : ℕ) → (proc_at p cut).opened ≡ Some k → owner_of rows k ≡ p
   open_own p k o =
       let l : p < P = open_there p k o in
       let is : IsOpen rows (start rows words P plan) p k cut (proc_at p cut) = (local p l).opened k o in
@@ -109,7 +106,7 @@ module _ (rows : List Row) (words : List ℕ) (P : ℕ) (plan : Plan P (length w
     since = since_join cut dark end (since-cut rows at cut) healed.since
 
     -- row k of process p was open at the cut
-    module _ (p k : ℕ) (o : (proc_at p cut).opened ≡ Open k) where
+    module _ (p k : ℕ) (o : (proc_at p cut).opened ≡ Some k) where
       abbrev here : p < P
       here = open_there p k o
 
@@ -143,8 +140,8 @@ module _ (rows : List Row) (words : List ℕ) (P : ℕ) (plan : Plan P (length w
           answered = λ k o.
               let e : Settled (owner_of rows k) k end.log since.new = newly (owner_of rows k) k o in
               record { answer = e.answer; told = e.answered; logged = subst (Logged (owner_of rows k) k e.answer) since.log e.logged };
-          no_other = all_map (λ e. (proc_at e.process cut).opened ≡ Open e.row) (λ e. StillOpen m rows e.row cut)
-              (λ e o. subst (λ p. (proc_at p cut).opened ≡ Open e.row) (sym (open_own e.process e.row o)) o)
+          no_other = all_map (λ e. (proc_at e.process cut).opened ≡ Some e.row) (λ e. StillOpen m rows e.row cut)
+              (λ e o. subst (λ p. (proc_at p cut).opened ≡ Some e.row) (sym (open_own e.process e.row o)) o)
               since.new since.told;
         }
 

@@ -1,7 +1,7 @@
 -- A whole recovery, by induction over its bytes: it leaves words and log as they were, adds answer rows of open rows only and closes all rows, also if
 -- the power is cut again in its midst. One without further cuts does to each process exactly what was to be done to it; and the other way round, bytes
 -- that do to each process what is to be done to it, in whatever order among the processes, are a recovery.
-use Rattle.std.specs.Prelude.{ℕ, suc, ◌<◌, ◌≡◌, Bool, replicate}
+use Rattle.std.specs.Prelude.{ℕ, suc, ◌<◌, ◌≡◌, Bool, replicate, Some}
 use Rattle.std.proofs.Math.Path.{refl, sym, ap, subst}
 use Rattle.std.proofs.Common.{◌∙◌, arith}
 use Rattle.std.proofs.Math.Bool.{true, false}
@@ -10,7 +10,6 @@ use Rattle.std.proofs.Math.Dec.{eqb}
 use borrow.Author.Tests.{eqb-true, eqb-false}
 use Rattle.runfile.specs.declared.Row.{Row}
 use Rattle.runfile.specs.Actions.{Action, step as steps, action, named}
-use Rattle.machine.specs.declared.Opened.TheVariants.{Open}
 use Rattle.machine.specs.declared.Process.{Process}
 use Rattle.machine.specs.declared.Status.{Status}
 use Rattle.machine.specs.declared.Status.TheVariants.{Down, Idle, N2, N3, Busy}
@@ -69,7 +68,7 @@ module _ (rows : List Row) (P : ℕ) where
           answers = h.answers;
           told = h.told;
           begun = each (λ q r. r.begun ≡ (proc_at q s).begun) h.begun (λ q. refl);
-          opened = each (λ q r. (k : ℕ) → r.opened ≡ Open k → (proc_at q s).opened ≡ Open k) h.opened (λ q k e. e);
+          opened = each (λ q r. (k : ℕ) → r.opened ≡ Some k → (proc_at q s).opened ≡ Some k) h.opened (λ q k e. e);
         }
 
     still_recovering : AllRecovering rows s'

@@ -1,11 +1,10 @@
 -- Each of the two wrong machines of `specs/Wrong.antt` breaks the claim: its short run is computed, and the claim says otherwise of it.
-use Rattle.std.specs.Prelude.{ℕ, ◌≡◌, refl, true, [], ◌∷◌, ◌++◌, get_or}
+use Rattle.std.specs.Prelude.{ℕ, ◌≡◌, refl, true, [], ◌∷◌, ◌++◌, get_or, Some}
 use Rattle.std.proofs.Common.{sym, ◌∙◌, ap, arith}
 use Rattle.runfile.specs.Operations.{row_numbered, first, count}
 use Rattle.word.specs.Word.{value_in, bit_in, swapped_in, bit_of, turn_of, flips_in}
 use Rattle.rows.specs.Entries.{is_swapped}
 use Rattle.rows.specs.Log.{one_past, place, insert}
-use Rattle.machine.specs.declared.Opened.TheVariants.{Open}
 use Rattle.machine.specs.Steps.{spoken, tried_in, storing_in, decide_in, step_turn_in}
 use Rattle.machine.specs.Machine.{applied, apply, proc_at, turn_in, act_in, step_in, begin}
 use Rattle.demand3.specs.Statement.{of, owner_of, through}
@@ -25,7 +24,7 @@ unfolding guess_cut by_value recovering turn_by act_by step_by through of row_nu
 not_logged = refl
 
 -- worker 0's row was open, and none had been told anything
-was_open : (proc_at (owner_of guess_rows 0) guess_cut).opened ≡ Open 0
+was_open : (proc_at (owner_of guess_rows 0) guess_cut).opened ≡ Some 0
 unfolding guess_cut by_value recovering turn_by act_by step_by through row_numbered first count value_in bit_in swapped_in bit_of turn_of flips_in tried_in storing_in decide_in step_turn_in applied apply proc_at turn_in act_in step_in begin
 was_open = refl
 

@@ -1,6 +1,6 @@
 -- Two cuts of bench case f, which `docs/POWER-CUT.md` works out, and two advances: what is told, in whichever order the bytes come, by computation. The
 -- premises of the claim can be met.
-use Rattle.std.specs.Prelude.{ℕ, ◌≡◌, refl, List, [], ◌∷◌, ◌++◌, replicate}
+use Rattle.std.specs.Prelude.{ℕ, ◌≡◌, refl, List, [], ◌∷◌, ◌++◌, replicate, Some, None}
 use Rattle.std.proofs.Common.{arith}
 use Rattle.runfile.specs.declared.Row.{Row}
 use Rattle.runfile.specs.Operations.{row_numbered, first, count, names}
@@ -10,7 +10,6 @@ use Rattle.rows.specs.Entries.{is_swapped}
 use Rattle.rows.specs.Log.{place, insert, one_past, is_swap, first_swap}
 use Rattle.rows.specs.declared.Entry.{Entry}
 use Rattle.machine.specs.declared.Answer.TheVariants.{False, True, Was}
-use Rattle.machine.specs.declared.Maybe.TheVariants.{None, Is}
 use Rattle.machine.specs.Steps.{entry, spoken, tried_in, storing_in, decide_in, step_turn_in}
 use Rattle.machine.specs.Machine.{turn_in, apply, applied, proc_at, act_in, step, step_in, begin}
 use Rattle.demand3.specs.Statement.{through}
@@ -46,8 +45,8 @@ lost = replicate 4 0x00 ++ (replicate 7 0x01 ++ replicate 3 0x00)
 -- in turn, worker 0 first: it is told fail and worker 1 true; the log has worker 1's swap alone, and the word is as it was
 pub in_turn_lem : ends rows lost (0x20 ∷ replicate 4 0x00 ++ 0x21 ∷ replicate 5 0x01) ≡ record {
   words = 8589934601 ∷ [];
-  log = entry 10 1 1 (Is True) ∷ [];
-  answers = entry 19 0 0 None ∷ entry 25 1 1 (Is True) ∷ [];
+  log = entry 10 1 1 (Some True) ∷ [];
+  answers = entry 19 0 0 None ∷ entry 25 1 1 (Some True) ∷ [];
 }
 unfolding rows lost through row_numbered first count value_in bit_in swapped_in bit_of turn_of flips_in is_swapped one_past place insert spoken tried_in storing_in decide_in step_turn_in applied apply proc_at turn_in act_in step_in begin
 in_turn_lem = refl
@@ -58,8 +57,8 @@ by_turns = 0x21 ∷ 0x20 ∷ 0x01 ∷ 0x00 ∷ 0x01 ∷ 0x00 ∷ 0x01 ∷ 0x00 �
 
 pub by_turns_lem : ends rows lost by_turns ≡ record {
   words = 8589934601 ∷ [];
-  log = entry 10 1 1 (Is True) ∷ [];
-  answers = entry 24 0 0 None ∷ entry 25 1 1 (Is True) ∷ [];
+  log = entry 10 1 1 (Some True) ∷ [];
+  answers = entry 24 0 0 None ∷ entry 25 1 1 (Some True) ∷ [];
 }
 unfolding rows lost by_turns through row_numbered first count value_in bit_in swapped_in bit_of turn_of flips_in is_swapped one_past place insert spoken tried_in storing_in decide_in step_turn_in applied apply proc_at turn_in act_in step_in begin
 by_turns_lem = refl
@@ -70,8 +69,8 @@ bytes_cut_again = 0x21 ∷ replicate 5 0x01 ++ 0x20 ∷ 0x00 ∷ 0x00 ∷ power_
 
 pub cut_again : ends rows lost bytes_cut_again ≡ record {
   words = 8589934601 ∷ [];
-  log = entry 10 1 1 (Is True) ∷ [];
-  answers = entry 20 1 1 (Is True) ∷ entry 30 0 0 None ∷ [];
+  log = entry 10 1 1 (Some True) ∷ [];
+  answers = entry 20 1 1 (Some True) ∷ entry 30 0 0 None ∷ [];
 }
 unfolding rows lost bytes_cut_again through row_numbered first count value_in bit_in swapped_in bit_of turn_of flips_in is_swapped one_past place insert spoken tried_in storing_in decide_in step_turn_in applied apply proc_at turn_in act_in step_in begin
 cut_again = refl
@@ -82,8 +81,8 @@ stored = replicate 4 0x00 ++ (replicate 7 0x01 ++ replicate 4 0x00)
 
 pub told_false : ends rows stored (0x20 ∷ replicate 2 0x00 ++ 0x21 ∷ replicate 5 0x01) ≡ record {
   words = 8589934601 ∷ [];
-  log = entry 10 1 1 (Is True) ∷ entry 10 0 0 (Is False) ∷ [];
-  answers = entry 18 0 0 (Is False) ∷ entry 24 1 1 (Is True) ∷ [];
+  log = entry 10 1 1 (Some True) ∷ entry 10 0 0 (Some False) ∷ [];
+  answers = entry 18 0 0 (Some False) ∷ entry 24 1 1 (Some True) ∷ [];
 }
 unfolding rows stored through names is_swap first_swap row_numbered first count value_in bit_in swapped_in bit_of turn_of flips_in is_swapped one_past place insert spoken tried_in storing_in decide_in step_turn_in applied apply proc_at turn_in act_in step_in begin
 told_false = refl
@@ -95,8 +94,8 @@ marks = record { process = 0; kind = 2; word = 0; old = 0; new = 5 } ∷ record 
 
 pub told_was : ends marks lost (0x20 ∷ replicate 4 0x00 ++ 0x21 ∷ replicate 5 0x01) ≡ record {
   words = 8589934602 ∷ [];
-  log = entry 10 1 1 (Is (Was 7)) ∷ [];
-  answers = entry 19 0 0 None ∷ entry 25 1 1 (Is (Was 7)) ∷ [];
+  log = entry 10 1 1 (Some (Was 7)) ∷ [];
+  answers = entry 19 0 0 None ∷ entry 25 1 1 (Some (Was 7)) ∷ [];
 }
 unfolding marks lost through row_numbered first count value_in bit_in swapped_in bit_of turn_of flips_in is_swapped one_past place insert spoken tried_in storing_in decide_in step_turn_in applied apply proc_at turn_in act_in step_in begin
 told_was = refl

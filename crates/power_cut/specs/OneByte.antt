@@ -2,7 +2,7 @@
 -- that byte, no other record changes, and an answer row that is added is of the row that the process had open. `proofs/OneByte.antt` proves it.
 use Prim.Native.Nat.{ℕ, ◌<◌}
 use Rattle.std.proofs.Math.Path.{◌≡◌, ap}
-use Rattle.std.proofs.Common.{◌∙◌}
+use Rattle.std.proofs.Common.{◌∙◌, Option, Some, None, ℕ}
 use Rattle.std.specs.Prelude.{List, [], ◌∷◌, ◌++◌}
 use Rattle.std.proofs.Math.ListN.{length, get_or, set, replicate}
 use Rattle.std.proofs.Math.Seq.{get_or-set_same, get_or-set_other}
@@ -10,8 +10,6 @@ use Rattle.runfile.specs.declared.Row.{Row}
 use Rattle.runfile.specs.Actions.{Action, step as steps, wake as wakes}
 use Rattle.rows.specs.declared.Entry.{Entry}
 use Rattle.machine.specs.declared.Process.{Process}
-use Rattle.machine.specs.declared.Opened.{Opened}
-use Rattle.machine.specs.declared.Opened.TheVariants.{Closed, Open}
 use Rattle.machine.specs.declared.Status.{Status}
 use Rattle.machine.specs.declared.Status.TheVariants.{Down, Idle, N2, N3, Busy}
 use Rattle.machine.specs.Records.{fresh}
@@ -21,12 +19,12 @@ use Rattle.power_cut.specs.Statement.{kept_bit, needed_of}
 use Rattle.power_cut.specs.Stages.{InRecovery, left}
 
 -- a process that is down, idle with no row open, or at a stage of recovery with a row open
-abbrev pub Recovering : Status → Opened → Type 0
+abbrev pub Recovering : Status → Option ℕ → Type 0
 Recovering Down opened = Unit {0}
-Recovering Idle opened = opened ≡ Closed
+Recovering Idle opened = opened ≡ None
 Recovering N2 opened = ⊥
 Recovering N3 opened = ⊥
-Recovering (Busy stage seen read_at tried_at answer) opened = InRecovery stage × ((k : ℕ) × (opened ≡ Open k))
+Recovering (Busy stage seen read_at tried_at answer) opened = InRecovery stage × ((k : ℕ) × (opened ≡ Some k))
 
 module _ (rows : List Row) where
   -- what is still to be done to process p, whose record is r
@@ -48,9 +46,9 @@ module _ (rows : List Row) where
     pub log : s'.log ≡ s.log
     pub new : List Entry
     pub answers : s'.answers ≡ s.answers ++ new
-    pub told : All (λ e. (proc_at e.process s).opened ≡ Open e.row) new
+    pub told : All (λ e. (proc_at e.process s).opened ≡ Some e.row) new
     pub begun : next.begun ≡ (proc_at p s).begun
-    pub opened : (k : ℕ) → next.opened ≡ Open k → (proc_at p s).opened ≡ Open k
+    pub opened : (k : ℕ) → next.opened ≡ Some k → (proc_at p s).opened ≡ Some k
     pub fit : Recovering next.status next.opened
     pub done : to_do p s ≡ a ∷ to_do_at p s.words next next.status
 

@@ -5,16 +5,13 @@
 -- Here is every definition that the claim (`Leaves`) rests on, beside those of the process record and of demand 3's statement. It is said of any
 -- machine that has the bench machine's states, so that wrong ones can be held against it (`Wrong.antt`). `proofs/PowerCut.antt` proves it of the bench
 -- machine for all rows that pass the refusals and for all bytes, `proofs/File.antt` of every run file that is not refused.
-use Rattle.std.specs.Prelude.{ℕ, zero, suc, ◌+◌, ◌≤◌, ◌<◌, ◌≡◌, Bool, true, false, List, [], ◌∷◌, ◌++◌, map, eqb, length, replicate}
+use Rattle.std.specs.Prelude.{ℕ, zero, suc, ◌+◌, ◌≤◌, ◌<◌, ◌≡◌, Bool, true, false, List, [], ◌∷◌, ◌++◌, map, eqb, length, replicate, Option, Some, None}
 use Rattle.runfile.specs.declared.Row.{Row}
 use Rattle.runfile.specs.Actions.{Action, step as steps, wake as wakes, action, named}
 use Rattle.word.specs.Word.{bit}
 use Rattle.rows.specs.declared.Entry.{Entry}
+use Rattle.machine.specs.declared.Answer.{Answer}
 use Rattle.machine.specs.declared.Process.{Process}
-use Rattle.machine.specs.declared.Maybe.{Maybe}
-use Rattle.machine.specs.declared.Maybe.TheVariants.{None, Is}
-use Rattle.machine.specs.declared.Opened.{Opened}
-use Rattle.machine.specs.declared.Opened.TheVariants.{Closed, Open}
 use Rattle.machine.specs.declared.Status.{Status}
 use Rattle.machine.specs.declared.Status.TheVariants.{Down, Idle}
 use Rattle.machine.specs.Records.{row_open}
@@ -41,16 +38,16 @@ pub data MendsOrCuts (status : Status) (byte : ℕ) : Type 0 where
 
 -- How many steps a process with a row open needs after its wake, by what is kept: the stored answer, the checkpoint, and whether its own flip bit is
 -- the kept bit (R121 to R126). It goes through V1 V5; V1 V2 V6; V1 V2 V3 V6; or V1 V2 V3 V4 V5
-unfoldable pub steps_by : Maybe → (checkpoint same : Bool) → ℕ
-steps_by (Is a) checkpoint same = 2
+unfoldable pub steps_by : Option Answer → (checkpoint same : Bool) → ℕ
+steps_by (Some a) checkpoint same = 2
 steps_by None false same = 3
 steps_by None true false = 4
 steps_by None true true = 5
 
 -- with no row open it is idle when it wakes (R132)
-abbrev pub steps_for : Opened → Maybe → (checkpoint same : Bool) → ℕ
-steps_for Closed stored checkpoint same = 0
-steps_for (Open k) stored checkpoint same = steps_by stored checkpoint same
+abbrev pub steps_for : Option ℕ → Option Answer → (checkpoint same : Bool) → ℕ
+steps_for None stored checkpoint same = 0
+steps_for (Some k) stored checkpoint same = steps_by stored checkpoint same
 
 -- what the bytes do to process p, in order
 unfoldable pub done_to : ℕ → List ℕ → List Action
@@ -76,7 +73,7 @@ module _ (rows : List Row) where
   -- Row k, which was open at the cut, has exactly one new answer row, for its process; and the log has the row exactly once, with that verdict and
   -- value, or the answer is fail and the log does not have the row. Of an advance that the log has, verdict and value are 4 and the value before
   pub record Answered (k : ℕ) (log new : List Entry) : Type 0 where
-    pub answer : Maybe
+    pub answer : Option Answer
     pub told : Once (owner_of rows k) k answer new
     pub logged : Logged (owner_of rows k) k answer log
 
@@ -103,7 +100,7 @@ module _ (does : (t byte : ℕ) → State → State) (P : ℕ) where
     -- from the state at the cut to the state at the end
     pub record Safe (cut end : State) : Type 0 where
       pub idle : AllIdle end
-      pub no_row_open : (p : ℕ) → p < P → (proc_at p end).opened ≡ Closed
+      pub no_row_open : (p : ℕ) → p < P → (proc_at p end).opened ≡ None
       -- nor has a further row been begun
       pub begun : (p : ℕ) → p < P → (proc_at p end).begun ≡ (proc_at p cut).begun
       pub words : end.words ≡ cut.words

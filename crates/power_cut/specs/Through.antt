@@ -1,12 +1,11 @@
 -- What a whole recovery comes to: it leaves words and log as they were, adds answer rows of open rows only and closes all rows, also if the power is cut
 -- again in its midst. `proofs/Through.antt` proves it.
-use Rattle.std.specs.Prelude.{ℕ, suc, ◌<◌, ◌≡◌}
+use Rattle.std.specs.Prelude.{ℕ, suc, ◌<◌, ◌≡◌, None}
 use Rattle.std.proofs.Math.Path.{refl, sym}
 use mathlib.Core.List.{List, [], ◌∷◌}
 use borrow.Author.Tests.{eq-eqb, ne_eqb}
 use Rattle.runfile.specs.declared.Row.{Row}
 use Rattle.runfile.specs.Actions.{action, named}
-use Rattle.machine.specs.declared.Opened.TheVariants.{Closed}
 use Rattle.machine.specs.Machine.{State, proc_at, step}
 use Rattle.power_cut.specs.Statement.{mends, AllIdle, Recovery, RecoveryWithCuts, done_to}
 use Rattle.power_cut.specs.Since.{Since}
@@ -25,7 +24,7 @@ module _ (rows : List Row) (P : ℕ) where
   pub record Healed (s end : State) : Type 0 where
     pub since : Since s end
     pub all_idle_lem : AllIdle (step rows) P end
-    pub shut : (p : ℕ) → p < P → (proc_at p end).opened ≡ Closed
+    pub shut : (p : ℕ) → p < P → (proc_at p end).opened ≡ None
 
   -- a recovery without further cuts is one
   pub with_cuts : (t : ℕ) (bytes : List ℕ) (s : State) → Recovery (step rows) P t bytes s → RecoveryWithCuts (step rows) P t bytes s

@@ -1,7 +1,7 @@
 -- What is told after a power cut, for people. The log at the cut decides: whatever the order of recovery and however often the power is cut again, an
 -- operation is told the same. An advance that the log has is told the value before it, the one that the word has at its place in the log (R245); one
 -- that the log does not have is told fail.
-use Rattle.std.specs.Prelude.{ℕ, ◌≡◌, length}
+use Rattle.std.specs.Prelude.{ℕ, ◌≡◌, length, Option, Some, None}
 use Rattle.std.proofs.Math.Path.{refl, ap}
 use Rattle.std.proofs.Common.{sym, ◌∙◌, subst, arith}
 use mathlib.Core.List.{List, [], ◌∷◌, ◌++◌}
@@ -16,8 +16,6 @@ use Rattle.rows.specs.declared.Entry.{Entry}
 use Rattle.rows.specs.Entries.{said}
 use Rattle.machine.specs.declared.Answer.{Answer}
 use Rattle.machine.specs.declared.Answer.TheVariants.{False, True, Value, Was}
-use Rattle.machine.specs.declared.Maybe.{Maybe}
-use Rattle.machine.specs.declared.Maybe.TheVariants.{None, Is}
 use Rattle.machine.specs.Steps.{spoken}
 use Rattle.machine.specs.Machine.{State, step, begin}
 use Rattle.replay.specs.Plain.{answer_of, answer_by}
@@ -30,11 +28,11 @@ use Rattle.demand3.specs.Order.{start, inv}
 use Rattle.power_cut.specs.Statement.{Answered, Safe, cut}
 
 -- what the log has of a row leaves one answer
-logged_one : (p k : ℕ) (log : List Entry) (a b : Maybe) → Logged p k a log → Logged p k b log → spoken a ≡ spoken b
+logged_one : (p k : ℕ) (log : List Entry) (a b : Option Answer) → Logged p k a log → Logged p k b log → spoken a ≡ spoken b
 logged_one p k log None None g h = refl
-logged_one p k log None (Is b) g h = absurd (let q : [] ≡ h.entry ∷ [] = sym g ∙ h.once in let z : ◌≡◌ {A = ℕ} 0 1 = cc in omega arith)
-logged_one p k log (Is a) None g h = absurd (let q : [] ≡ g.entry ∷ [] = sym h ∙ g.once in let z : ◌≡◌ {A = ℕ} 0 1 = cc in omega arith)
-logged_one p k log (Is a) (Is b) g h = let q : g.entry ∷ [] ≡ h.entry ∷ [] = sym g.once ∙ h.once in let e : g.entry ≡ h.entry = cc in sym g.says_so ∙ ap said e ∙ h.says_so
+logged_one p k log None (Some b) g h = absurd (let q : [] ≡ h.entry ∷ [] = sym g ∙ h.once in let z : ◌≡◌ {A = ℕ} 0 1 = cc in omega arith)
+logged_one p k log (Some a) None g h = absurd (let q : [] ≡ g.entry ∷ [] = sym h ∙ g.once in let z : ◌≡◌ {A = ℕ} 0 1 = cc in omega arith)
+logged_one p k log (Some a) (Some b) g h = let q : g.entry ∷ [] ≡ h.entry ∷ [] = sym g.once ∙ h.once in let e : g.entry ≡ h.entry = cc in sym g.says_so ∙ ap said e ∙ h.says_so
 
 -- two recoveries from one cut tell row k the same verdict and value
 pub same-told : (rows : List Row) (k : ℕ) (log new new' : List Entry) (x : Answered rows k log new) (y : Answered rows k log new') → said x.told.entry ≡ said y.told.entry
@@ -44,11 +42,11 @@ same-told rows k log new new' x y = x.told.says_so ∙ logged_one (owner_of rows
 -- values, has that value; or it is told fail, and the log does not have it
 pub data AdvanceTold (rows : List Row) (values : List ℕ) (k : ℕ) (log new : List Entry) : Type 0 where
   moved : (v : ℕ) (e : Entry) (front back : List Entry) → e.row ≡ k → log ≡ front ++ e ∷ back → get_or (final rows values front) (row_numbered rows k).word 0 ≡ v
-      → Once (owner_of rows k) k (Is (Was v)) new → Once (owner_of rows k) k (Is (Was v)) log → AdvanceTold rows values k log new
+      → Once (owner_of rows k) k (Some (Was v)) new → Once (owner_of rows k) k (Some (Was v)) log → AdvanceTold rows values k log new
   failed : Once (owner_of rows k) k None new → of k log ≡ [] → AdvanceTold rows values k log new
 
 -- an answer with verdict 4 is the value before
-was : (a : Answer) (v : ℕ) → spoken (Is a) ≡ record { verdict = 4; value = v } → a ≡ Was v
+was : (a : Answer) (v : ℕ) → spoken (Some a) ≡ record { verdict = 4; value = v } → a ≡ Was v
 unfolding spoken
 was False v e = absurd (let z : ◌≡◌ {A = ℕ} 0 4 = ap (λ d. d.verdict) e in omega arith)
 was True v e = absurd (let z : ◌≡◌ {A = ℕ} 1 4 = ap (λ d. d.verdict) e in omega arith)
@@ -57,7 +55,7 @@ was (Was u) v e = ap Was (ap (λ d. d.value) e)
 
 module _ (rows : List Row) (values : List ℕ) (k : ℕ) (advances : kind_of (row_numbered rows k) ≡ Advance) (log new : List Entry) (right : Right rows values log) where
   -- its log row says what an advance answers where it stands
-  stands : (a : Answer) → Once (owner_of rows k) k (Is a) log → Once (owner_of rows k) k (Is a) new → AdvanceTold rows values k log new
+  stands : (a : Answer) → Once (owner_of rows k) k (Some a) log → Once (owner_of rows k) k (Some a) new → AdvanceTold rows values k log new
   unfolding of answer_of
   stands a l n =
       let d : Found (λ e. eqb e.row k) log l.entry = keep-found (λ e. eqb e.row k) log l.entry [] l.once in
@@ -69,11 +67,11 @@ module _ (rows : List Row) (values : List ℕ) (k : ℕ) (advances : kind_of (ro
       ∙ ap (λ j. answer_of (row_numbered rows j) (get_or (final rows values d.front) (row_numbered rows j).word 0)) is
       ∙ ap (λ kind. answer_by kind (row_numbered rows k).old v) advances in
       let q : a ≡ Was v = was a v (sym l.says_so ∙ here) in
-      moved v l.entry d.front d.back is d.whole refl (subst (λ a. Once (owner_of rows k) k (Is a) new) q n) (subst (λ a. Once (owner_of rows k) k (Is a) log) q l)
+      moved v l.entry d.front d.back is d.whole refl (subst (λ a. Once (owner_of rows k) k (Some a) new) q n) (subst (λ a. Once (owner_of rows k) k (Some a) log) q l)
 
-  told : (a : Maybe) → Once (owner_of rows k) k a new → Logged (owner_of rows k) k a log → AdvanceTold rows values k log new
+  told : (a : Option Answer) → Once (owner_of rows k) k a new → Logged (owner_of rows k) k a log → AdvanceTold rows values k log new
   told None n l = failed n l
-  told (Is a) n l = stands a l n
+  told (Some a) n l = stands a l n
 
 module _ (rows : List Row) (words : List ℕ) (P : ℕ) (plan : Plan P (length words) rows) (before : List ℕ) where
   abbrev cut_state : State

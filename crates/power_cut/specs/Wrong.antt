@@ -1,8 +1,7 @@
 -- Two wrong machines, to be held against the claim, which is said of each one's own states. Each differs from the bench machine in one rule of recovery,
 -- and each has a short run that breaks the claim (`proofs/Wrong.antt`): so it is not a claim that any machine would meet.
-use Rattle.std.specs.Prelude.{ℕ, cond, List, [], ◌∷◌, ◌++◌, eqb, replicate}
+use Rattle.std.specs.Prelude.{ℕ, cond, List, [], ◌∷◌, ◌++◌, eqb, replicate, None}
 use Rattle.runfile.specs.declared.Row.{Row}
-use Rattle.machine.specs.declared.Maybe.TheVariants.{None}
 use Rattle.machine.specs.declared.Process.{Process}
 use Rattle.machine.specs.declared.Stage.TheVariants.{A1}
 use Rattle.machine.specs.declared.Status.{Status}

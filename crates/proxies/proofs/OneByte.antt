@@ -1,6 +1,6 @@
 -- One byte. A byte of the other proxy touches nothing on this proxy's side; a byte of this proxy, or F0, does the same in two states that have the same side.
 -- Both by the six things that a step may come to, whatever its stage.
-use Rattle.std.specs.Prelude.{ℕ, ◌+◌, ◌≡◌, Bool, cond, List, [], ◌∷◌, ◌++◌, ◌⊎◌, ltb, get_or, set}
+use Rattle.std.specs.Prelude.{ℕ, ◌+◌, ◌≡◌, Bool, cond, List, [], ◌∷◌, ◌++◌, ◌⊎◌, ltb, get_or, set, Some, None}
 use Rattle.std.proofs.Math.Path.{refl, sym, ap, subst}
 use Rattle.std.proofs.Common.{◌∙◌, inl, inr}
 use Rattle.std.proofs.Math.Bool.{true, false}
@@ -10,8 +10,6 @@ use Rattle.runfile.specs.Operations.{row_numbered, first, count, names}
 use Rattle.rows.specs.declared.Entry.{Entry}
 use Rattle.rows.specs.Log.{insert, is_swap, first_swap}
 use Rattle.machine.specs.declared.Answer.TheVariants.{False}
-use Rattle.machine.specs.declared.Maybe.TheVariants.{None, Is}
-use Rattle.machine.specs.declared.Opened.TheVariants.{Open}
 use Rattle.machine.specs.declared.Process.{Process}
 use Rattle.machine.specs.declared.Status.{Status}
 use Rattle.machine.specs.declared.Status.TheVariants.{Down, Idle, N2, N3, Busy}
@@ -57,7 +55,7 @@ module _ (split : Split) (x : Proxy) where
     effect_other k w r (Loses next after otherwise) o = side_same refl (records_other next) (insert_other Own _ s.log not-mine) refl
     effect_other k w r (Replies next answer) o = side_same refl (records_other next) refl (last_other Own _ s.answers not-mine)
 
-    open_other : (r : Process) (k : ℕ) → r.opened ≡ Open k → OwnOpen rows q k → (st : Status) → side split x (applied q (turn rows q t s.words s.log r st) s) ≡ side split x s
+    open_other : (r : Process) (k : ℕ) → r.opened ≡ Some k → OwnOpen rows q k → (st : Status) → side split x (applied q (turn rows q t s.words s.log r st) s) ≡ side split x s
     unfolding turn_in
     open_other r k o is st =
         let row = row_numbered rows (row_open r.opened) in
@@ -68,7 +66,7 @@ module _ (split : Split) (x : Proxy) where
     unfolding applied
     step_other = go (quiet_or_open rows q t s.words s.log (proc_at q s) (proc_at q s).status (h.works q))
       where
-        go : ((turn rows q t s.words s.log (proc_at q s) (proc_at q s).status).effect ≡ quiet) ⊎ ((k : ℕ) × ((proc_at q s).opened ≡ Open k))
+        go : ((turn rows q t s.words s.log (proc_at q s) (proc_at q s).status).effect ≡ quiet) ⊎ ((k : ℕ) × ((proc_at q s).opened ≡ Some k))
             → side split x (applied q (turn rows q t s.words s.log (proc_at q s) (proc_at q s).status) s) ≡ side split x s
         go (inl e) =
             let m = turn rows q t s.words s.log (proc_at q s) (proc_at q s).status in
@@ -157,14 +155,14 @@ module _ (split : Split) (x : Proxy) where
           (insert-same _ mine) answers_same
       effect_same k w r (Loses next after otherwise) o =
           side_same words_same (records_own next)
-          (insert-same (entry (first_swap rows w after otherwise s.log) p k (Is False)) mine
-          ∙ ap (λ at. entries_of split x (insert (entry at p k (Is False)) s'.log)) (swap_same w after otherwise o)) answers_same
+          (insert-same (entry (first_swap rows w after otherwise s.log) p k (Some False)) mine
+          ∙ ap (λ at. entries_of split x (insert (entry at p k (Some False)) s'.log)) (swap_same w after otherwise o)) answers_same
       effect_same k w r (Replies next answer) o =
           side_same words_same (records_own next)
           log_same (last_same _ mine)
 
       -- in the midst of work, at row k
-      work_same : (r : Process) (k : ℕ) → r.opened ≡ Open k → OwnOpen rows p k → (st : Status)
+      work_same : (r : Process) (k : ℕ) → r.opened ≡ Some k → OwnOpen rows p k → (st : Status)
           → side split x (applied p (turn rows p t s.words s.log r st) s) ≡ side split x (applied p (turn rows' p t s'.words s'.log r st) s')
       unfolding turn_in
       work_same r k o is st =
@@ -179,7 +177,7 @@ module _ (split : Split) (x : Proxy) where
           ∙ ap (λ c. side split x (applied p (move_of rows' s'.log p t j row.word r (step_turn row p t (get_or s'.words row.word 0) (first rows' p) c r st)) s')) (count_same split x p mine rows rows' tables)
           ∙ ap (λ row. side split x (applied p (move_of rows' s'.log p t j row.word r (step_turn row p t (get_or s'.words row.word 0) (first rows' p) (count rows' p) r st)) s')) rows_are
 
-      turn-same : (r : Process) → ((k : ℕ) → r.opened ≡ Open k → OwnOpen rows p k) → (st : Status) → WorkOpen st r.opened
+      turn-same : (r : Process) → ((k : ℕ) → r.opened ≡ Some k → OwnOpen rows p k) → (st : Status) → WorkOpen st r.opened
           → side split x (applied p (turn rows p t s.words s.log r st) s) ≡ side split x (applied p (turn rows' p t s'.words s'.log r st) s')
       unfolding turn_in step_turn_in
       turn-same r is Down w = record_same r

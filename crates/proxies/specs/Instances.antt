@@ -1,7 +1,7 @@
 -- Two small inputs, and what the premises of the claim are for. Process 0 and word 0 belong to proxy one, process 1 and word 1 to proxy two. Two inputs that
 -- differ in proxy two's row, start word and bytes. And three pairs of inputs, each with one premise dropped, in which a proxy does see what the other
 -- did: a row on the other's word, F0 replaced, another number of rows. By computation; what rests on the claim is in `proofs/Instances.antt`.
-use Rattle.std.specs.Prelude.{ℕ, ◌≡◌, refl, [], ◌∷◌, ◌++◌, get_or, replicate}
+use Rattle.std.specs.Prelude.{ℕ, ◌≡◌, refl, [], ◌∷◌, ◌++◌, get_or, replicate, Some, None}
 use Rattle.std.proofs.Common.{sym, ◌∙◌, ap, arith}
 use Rattle.runfile.specs.declared.Row.{Row}
 use Rattle.runfile.specs.Operations.{row_numbered, first, count}
@@ -10,7 +10,6 @@ use Rattle.rows.specs.declared.Entry.{Entry}
 use Rattle.rows.specs.Entries.{is_swapped}
 use Rattle.rows.specs.Log.{one_past, place, insert}
 use Rattle.machine.specs.declared.Answer.TheVariants.{Was}
-use Rattle.machine.specs.declared.Maybe.TheVariants.{None, Is}
 use Rattle.machine.specs.Steps.{entry, spoken, tried_in, storing_in, decide_in, step_turn_in}
 use Rattle.machine.specs.Machine.{turn_in, apply, applied, proc_at, act_in, step, step_in, begin}
 use Rattle.demand3.specs.Statement.{through}
@@ -43,7 +42,7 @@ unfoldable pub there : Input
 there = record { rows = advance 0 0 5 ∷ read 1 1 ∷ []; words = 7 ∷ 500 ∷ []; schedule = 0x00 ∷ 0x11 ∷ 0x00 ∷ 0x21 ∷ 0x00 ∷ 0x01 ∷ 0x00 ∷ 0x11 ∷ 0x00 ∷ 0x00 ∷ 0x00 ∷ 0x00 ∷ 0xF0 ∷ [] }
 
 -- what proxy one sees is its advance, at position 10; proxy two sees other words of its own
-pub its_own : one_sees here ≡ record { words = 4294967308 ∷ []; log = entry 10 0 0 (Is (Was 7)) ∷ []; answers = [] }
+pub its_own : one_sees here ≡ record { words = 4294967308 ∷ []; log = entry 10 0 0 (Some (Was 7)) ∷ []; answers = [] }
 unfolding here through owns proxy_of part entries_of row_numbered first count value_in bit_in swapped_in bit_of turn_of flips_in is_swapped one_past place insert spoken tried_in storing_in decide_in step_turn_in applied apply proc_at turn_in act_in step_in begin
 its_own = refl
 

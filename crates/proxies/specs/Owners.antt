@@ -1,6 +1,6 @@
 -- Whose a row is, along a run: a row that a process has open is a row of that process, and so is the row of every log entry that it makes; the log is in
 -- order. The first and the last are read off demand 3's invariant; the second goes over the bytes, for an entry is made only at an open row.
-use Rattle.std.specs.Prelude.{ℕ, suc, ◌≤◌, ◌<◌, ◌≡◌, refl, Bool, true, false, cond, List, [], ◌∷◌, ◌⊎◌, ltb, length, get_or, take, drop}
+use Rattle.std.specs.Prelude.{ℕ, suc, ◌≤◌, ◌<◌, ◌≡◌, refl, Bool, true, false, cond, List, [], ◌∷◌, ◌⊎◌, ltb, length, get_or, take, drop, Some, None}
 use Rattle.std.proofs.Common.{sym, ◌∙◌, ap, inl, inr, arith, take-append-drop, ltb-true, ltb-false}
 use Rattle.std.proofs.Math.Path.{subst}
 use Rattle.runfile.specs.declared.Row.{Row}
@@ -9,11 +9,9 @@ use Rattle.runfile.specs.Operations.{row_numbered, first, count}
 use Rattle.rows.specs.declared.Entry.{Entry}
 use Rattle.rows.specs.Log.{place, insert}
 use Rattle.machine.specs.declared.Process.{Process}
-use Rattle.machine.specs.declared.Opened.TheVariants.{Open}
 use Rattle.machine.specs.declared.Status.{Status}
 use Rattle.machine.specs.declared.Status.TheVariants.{Down, Idle, N2, N3, Busy}
 use Rattle.machine.specs.Turn.{Turn, Still, Quiet, Swaps, Logs, Loses, Replies}
-use Rattle.machine.specs.declared.Maybe.TheVariants.{None}
 use Rattle.machine.specs.Records.{with_stored, row_open, WorkOpen}
 use Rattle.machine.specs.Steps.{step_turn, step_turn_in}
 use Rattle.machine.specs.Machine.{State, quiet, effect_of, log_after, apply, applied, turn, turn_in, proc_at, act, act_in, step, step_in, after_in, begin}
@@ -28,7 +26,7 @@ use Rattle.demand3.specs.Order.{Always, start, good, own}
 
 -- a step has no effect but on the record, or a row is open
 pub quiet_or_open : (rows : List Row) (p t : ℕ) (words : List ℕ) (log : List Entry) (r : Process) (status : Status) → WorkOpen status r.opened
-    → ((turn rows p t words log r status).effect ≡ quiet) ⊎ ((k : ℕ) × (r.opened ≡ Open k))
+    → ((turn rows p t words log r status).effect ≡ quiet) ⊎ ((k : ℕ) × (r.opened ≡ Some k))
 unfolding turn_in step_turn_in
 quiet_or_open rows p t words log r Down h = inl refl
 quiet_or_open rows p t words log r Idle h = inl (go (ltb r.begun (count rows p)))
@@ -53,7 +51,7 @@ module _ (rows : List Row) where
   pub record Tidy (s : State) : Type 0 where
     pub sorted : Sorted s.log
     pub owned : Owned s.log
-    pub opened : (p k : ℕ) → (proc_at p s).opened ≡ Open k → OwnOpen p k
+    pub opened : (p k : ℕ) → (proc_at p s).opened ≡ Some k → OwnOpen p k
     pub works : (p : ℕ) → WorkOpen (proc_at p s).status (proc_at p s).opened
 
   -- a new entry of the open row
@@ -71,7 +69,7 @@ module _ (rows : List Row) where
   owned_effect p t k w (Loses next after otherwise) log h o = owned_insert _ log h o
   owned_effect p t k w (Replies next said) log h o = o
 
-  owned_turn : (t p k : ℕ) (s : State) (r : Process) → r.opened ≡ Open k → (row_numbered rows k).process ≡ p → Owned s.log → Owned (log_after (turn rows p t s.words s.log r r.status).effect s.log)
+  owned_turn : (t p k : ℕ) (s : State) (r : Process) → r.opened ≡ Some k → (row_numbered rows k).process ≡ p → Owned s.log → Owned (log_after (turn rows p t s.words s.log r r.status).effect s.log)
   unfolding turn_in
   owned_turn t p k s r o h g =
       let row = row_numbered rows (row_open r.opened) in
@@ -82,7 +80,7 @@ module _ (rows : List Row) where
   unfolding act_in applied apply
   owned_act t steps p s h = go (quiet_or_open rows p t s.words s.log (proc_at p s) (proc_at p s).status (h.works p))
     where
-      go : ((turn rows p t s.words s.log (proc_at p s) (proc_at p s).status).effect ≡ quiet) ⊎ ((k : ℕ) × ((proc_at p s).opened ≡ Open k))
+      go : ((turn rows p t s.words s.log (proc_at p s) (proc_at p s).status).effect ≡ quiet) ⊎ ((k : ℕ) × ((proc_at p s).opened ≡ Some k))
           → Owned (log_after (turn rows p t s.words s.log (proc_at p s) (proc_at p s).status).effect s.log)
       go (inl e) = subst (λ f. Owned (log_after f s.log)) (sym e) h.owned
       go (inr (k, o)) = owned_turn t p k s (proc_at p s) o (h.opened p k o).owner h.owned
@@ -104,7 +102,7 @@ module _ (rows : List Row) (words : List ℕ) (P : ℕ) (plan : Plan P (length w
 
   module _ (t : ℕ) (s : State) (h : Known t s) where
     -- a process that is not there has nothing open
-    own_open : (p k : ℕ) → (proc_at p s).opened ≡ Open k → (row_numbered rows k).process ≡ p
+    own_open : (p k : ℕ) → (proc_at p s).opened ≡ Some k → (row_numbered rows k).process ≡ p
     own_open p k o = go (ltb p P) refl
       where
         go : (c : Bool) → ltb p P ≡ c → (row_numbered rows k).process ≡ p

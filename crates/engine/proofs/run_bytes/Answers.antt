@@ -156,15 +156,15 @@ loop-i-preserved-in-1 c =
     let b = at_byte c.requires c.loop-i.invariant c.loop-i-test.true c.index8-at.ensures.0 c.counts_of-counts.ensures c.firsts_of-firsts.ensures in
     (c.loop-i.invariant.0, crash b c.in-1.is)
 
-pub loop-i-preserved-in-Closed : goal.loop-i-preserved-in-Closed
-loop-i-preserved-in-Closed c =
+pub loop-i-preserved-in-None : goal.loop-i-preserved-in-None
+loop-i-preserved-in-None c =
     let b = at_byte c.requires c.loop-i.invariant c.loop-i-test.true c.index8-at.ensures.0 c.counts_of-counts.ensures c.firsts_of-firsts.ensures in
-    (c.loop-i.invariant.0, wake_idle b c.in-2.is c.in-Down-status.is c.in-Closed.is)
+    (c.loop-i.invariant.0, wake_idle b c.in-2.is c.in-Down-status.is c.in-None.is)
 
-pub loop-i-preserved-in-Open : goal.loop-i-preserved-in-Open
-loop-i-preserved-in-Open c =
+pub loop-i-preserved-in-Some : goal.loop-i-preserved-in-Some
+loop-i-preserved-in-Some c =
     let b = at_byte c.requires c.loop-i.invariant c.loop-i-test.true c.index8-at.ensures.0 c.counts_of-counts.ensures c.firsts_of-firsts.ensures in
-    (c.loop-i.invariant.0, wake_busy b c.in-2.is c.in-Down-status.is c.in-Open.is c.busy-status-in-Open.ensures)
+    (c.loop-i.invariant.0, wake_busy b c.in-2.is c.in-Down-status.is c.in-Some.is c.busy-status-in-Some.ensures)
 
 pub loop-i-preserved-in_default-status : goal.loop-i-preserved-in_default-status
 loop-i-preserved-in_default-status c =
