@@ -4,7 +4,7 @@
 use Prim.Native.Nat.{ℕ, zero, suc, ◌+◌, ◌*◌, ◌-◌, ◌/◌, ◌%◌, ◌≤◌, ◌<◌}
 use Rattle.std.proofs.Math.Path.{◌≡◌, refl, subst}
 use Rattle.std.proofs.Common.{sym, ap, ◌∙◌, inl, inr, ⊎_elim, true≢false, arith}
-use Rattle.std.specs.Prelude.{◌↔◌, ◌⊎◌, Bool, cond, not, ◌&&◌, ◌||◌, leb, eqb, get_or, take}
+use Rattle.std.specs.Prelude.{◌↔◌, ◌⊎◌, Bool, cond, not, ◌&&◌, ◌||◌, leb, eqb, get_or, take, Option, Some, None, Ok}
 use Rattle.std.proofs.Math.Bool.{true, false}
 use mathlib.Core.List.{List, [], ◌∷◌}
 use Rattle.std.proofs.Math.Dec.{ltb}
@@ -19,16 +19,14 @@ use Rattle.runfile.specs.declared.Field.TheVariants as field
 use Rattle.runfile.specs.declared.Room.{Room}
 use Rattle.runfile.specs.declared.Refusal.{Refusal}
 use Rattle.runfile.specs.declared.Refusal.TheVariants as refusal
-use Rattle.runfile.specs.declared.Found.{Found}
-use Rattle.runfile.specs.declared.Found.TheVariants.{Nowhere, At}
-use Rattle.runfile.specs.declared.Checked.TheVariants.{Accepted, Refused}
+use Rattle.runfile.specs.declared.Refused.{Refused}
 use Rattle.runfile.specs.Format.{offset_of}
 use Rattle.runfile.specs.Layout.{marked, header_in, rows_start, stride_of, row_place, schedule_in, length_given}
 use Rattle.runfile.specs.Fields.{fields, field_at, order_of, ordered, order_at, rising}
 use Rattle.runfile.specs.Actions.{Action, step, crash, wake, crash_all, none, action_of, action, named}
 use Rattle.runfile.specs.Ups.{is_up, idle_by, idles}
 use Rattle.runfile.specs.Kinds.{kind_of}
-use Rattle.runfile.specs.Refusals.{place_of, out_of_range, zero_old, zero_new, bad_field, bad_in, same_by, same_fields, bad_action, bad_byte, found_if, first_offender, bad_field_in, first_bad_field, first_row, first_later_row, first_byte, whole, found, or_else, first_of, refusals_in_order, refusal_of}
+use Rattle.runfile.specs.Refusals.{place_of, out_of_range, zero_old, zero_new, bad_field, bad_in, same_by, same_fields, bad_action, bad_byte, found_if, first_offender, bad_field_in, first_bad_field, first_row, first_later_row, first_byte, whole, found, refused, or_else, first_of, refusals_in_order, refusal_of}
 use Rattle.runfile.specs.Table.{Marked, BadField, BadIn, ZeroOld, ZeroNew, Same, SameFields, FirstBadField, BadByte, IdleByte, First, row_of, zero_byte_of, byte_of, Given, Earlier}
 use Rattle.runfile.specs.Table as table
 use Rattle.runfile.specs.Lawful.{LawfulByte, NotIdle, of_one, of_all_lem, has_mark, in_range, neither, not_both, lawful_byte, not_idle_byte, high-action}
@@ -60,13 +58,13 @@ said_false true Bad tells n = absurd (n (tells.true_is refl))
 said_false false Bad tells n = refl
 
 module _ (place : ℕ → ℕ) (offends : ℕ → Bool) (Bad : ℕ → Type 0) (tells : (k : ℕ) → Tells (offends k) (Bad k)) where
-  first_found : (k n at : ℕ) → first_offender place offends k n ≡ At at → First k n place Bad at
+  first_found : (k n at : ℕ) → first_offender place offends k n ≡ Some at → First k n place Bad at
   first_found k n at e =
       let m = earliest (λ i. found_if (offends i) (place i)) k n at e in
       let t = is_found (offends m.which) (place m.which) at m.found in
       record { which = m.which; after = m.after; within = m.within; bad = (tells m.which).true_is t.0; none_before = λ j a b. (tells j).false_is (not_found (offends j) (place j) (m.none_before j a b)); here = t.1 }
 
-  found_first : (k n at : ℕ) → First k n place Bad at → first_offender place offends k n ≡ At at
+  found_first : (k n at : ℕ) → First k n place Bad at → first_offender place offends k n ≡ Some at
   found_first k n at m = found_earliest (λ i. found_if (offends i) (place i)) k n at (record {
     which = m.which;
     after = m.after;
@@ -75,11 +73,11 @@ module _ (place : ℕ → ℕ) (offends : ℕ → Bool) (Bad : ℕ → Type 0) (
     none_before = λ j a b. rw (said_false _ _ (tells j) (m.none_before j a b));
   })
 
-  first_iff : (k n at : ℕ) → (first_offender place offends k n ≡ At at) ↔ First k n place Bad at
+  first_iff : (k n at : ℕ) → (first_offender place offends k n ≡ Some at) ↔ First k n place Bad at
   first_iff k n at = (first_found k n at, found_first k n at)
 
-whole_iff : (t : Bool) (Bad : Type 0) (at : ℕ) → Tells t Bad → (whole t ≡ At at) ↔ (Bad × (at ≡ 0))
-whole_iff true Bad at tells = (λ e. (tells.true_is refl, cc), λ b. ap At (sym b.1))
+whole_iff : (t : Bool) (Bad : Type 0) (at : ℕ) → Tells t Bad → (whole t ≡ Some at) ↔ (Bad × (at ≡ 0))
+whole_iff true Bad at tells = (λ e. (tells.true_is refl, cc), λ b. ap Some (sym b.1))
 whole_iff false Bad at tells = (λ e. absurd (let z : ◌≡◌ {A = ℕ} 0 1 = cc in omega arith), λ b. absurd (tells.false_is refl b.0))
 
 -- the tests of the table, line by line
@@ -153,13 +151,13 @@ module _ (h : Header) (f : List ℕ) (at : ℕ) where
   abbrev s : ℕ
   s = stride_of h
 
-  abbrev in_row : ℕ → ℕ → Found
+  abbrev in_row : ℕ → ℕ → Option ℕ
   in_row k i = found_if (bad_in h s f start k (field_at i)) (row_place s start k + offset_of s (field_at i))
 
   tells_in : (k : ℕ) (x : Field) → Tells (bad_in h s f start k x) (BadIn h f k x)
   tells_in k x = tells_field h (row_of h f k) (zero_byte_of h f k) x
 
-  field_found : first_bad_field h s f start h.rows ≡ At at → FirstBadField h f at
+  field_found : first_bad_field h s f start h.rows ≡ Some at → FirstBadField h f at
   unfolding first_bad_field
   field_found e =
       let m = earliest (bad_field_in h s f start) 0 h.rows at e in
@@ -183,7 +181,7 @@ module _ (h : Header) (f : List ℕ) (at : ℕ) where
           let number = order_at i.which i.within in
           subst (λ y. bad_in h s f start m.which y ≡ false) o.1 (not_found (bad_in h s f start m.which (field_at (order_of x))) _ (i.none_before (order_of x) (omega arith) (omega arith)))
 
-  found_field : FirstBadField h f at → first_bad_field h s f start h.rows ≡ At at
+  found_field : FirstBadField h f at → first_bad_field h s f start h.rows ≡ Some at
   unfolding first_bad_field
   found_field m = found_earliest (bad_field_in h s f start) 0 h.rows at (record {
     which = m.row;
@@ -252,7 +250,7 @@ tells_idle : (before : List ℕ) (byte : ℕ) → Tells (idles before byte) (Idl
 tells_idle before byte = record { true_is = idle-byte before byte; false_is = λ e. not_idle_and_idle before byte (not_idle_byte before byte e) }
 
 -- each line of the table: the check finds a place exactly when the line gives the refusal there
-pub line : (h : Header) (f : List ℕ) (room : Room) (why : Refusal) (at : ℕ) → (found h f room why ≡ At at) ↔ Given h f room why at
+pub line : (h : Header) (f : List ℕ) (room : Room) (why : Refusal) (at : ℕ) → (found h f room why ≡ Some at) ↔ Given h f room why at
 unfolding first_row first_later_row first_byte
 line h f room refusal.Short at = whole_iff _ _ at (less (length f) 11)
 line h f room refusal.Mark at = whole_iff _ _ at (tells_mark f)
@@ -272,50 +270,51 @@ line h f room refusal.LogRoom at = whole_iff _ _ at (less room.log (5 * h.steps)
 line h f room refusal.AnswersRoom at = whole_iff _ _ at (less room.answers (5 * h.steps))
 
 -- a check finds a place or nothing
-clear_iff : (h : Header) (f : List ℕ) (room : Room) (why : Refusal) → (found h f room why ≡ Nowhere) ↔ ((at : ℕ) → Given h f room why at → ⊥)
+clear_iff : (h : Header) (f : List ℕ) (room : Room) (why : Refusal) → (found h f room why ≡ None) ↔ ((at : ℕ) → Given h f room why at → ⊥)
 clear_iff h f room why = (λ e at g. lost at (sym e ∙ (line h f room why at).1 g), λ no_place. go (found h f room why) refl no_place)
   where
-    lost : (at : ℕ) → Nowhere ≡ At at → ⊥
+    lost : (at : ℕ) → None ≡ Some at → ⊥
     lost at e = let z : ◌≡◌ {A = ℕ} 0 1 = cc in omega arith
 
-    go : (t : Found) → found h f room why ≡ t → ((at : ℕ) → Given h f room why at → ⊥) → t ≡ Nowhere
-    go Nowhere q no_place = refl
-    go (At at) q no_place = absurd (no_place at ((line h f room why at).0 q))
+    go : (t : Option ℕ) → found h f room why ≡ t → ((at : ℕ) → Given h f room why at → ⊥) → t ≡ None
+    go None q no_place = refl
+    go (Some at) q no_place = absurd (no_place at ((line h f room why at).0 q))
 
 -- a place in the list names one check
 pub one_place : (a b : Refusal) → place_of a ≡ place_of b → a ≡ b
 one_place a b e = sym (placed a).0 ∙ (ap (λ n. get_or refusals_in_order n refusal.Short) e ∙ (placed b).0)
 
 -- the order of the checks, over a list whose places go from n on
-module _ (finds : Refusal → Found) (h : Header) (why : Refusal) (at : ℕ) where
+module _ (finds : Refusal → Option ℕ) (h : Header) (why : Refusal) (at : ℕ) where
   EarlierClear : ℕ → Type 0
-  EarlierClear n = (e : Refusal) → n ≤ place_of e → Earlier e why → finds e ≡ Nowhere
+  EarlierClear n = (e : Refusal) → n ≤ place_of e → Earlier e why → finds e ≡ None
 
-  refused_by : (n : ℕ) (l : List Refusal) → Placed n l → first_of finds l h ≡ Refused why at → (finds why ≡ At at) × EarlierClear n
+  refused_by : (n : ℕ) (l : List Refusal) → Placed n l → first_of finds l h ≡ refused why at → (finds why ≡ Some at) × EarlierClear n
   unfolding EarlierClear
   refused_by n [] num e = absurd (let z : ◌≡◌ {A = ℕ} 0 1 = cc in omega arith)
   refused_by n (w ∷ l) num e = go (finds w) refl (refused_by (suc n) l num.1) e
     where
-      next : finds w ≡ Nowhere → EarlierClear (suc n) → (e : Refusal) → n ≤ place_of e → Earlier e why → (later : Bool) → ltb n (place_of e) ≡ later → finds e ≡ Nowhere
+      next : finds w ≡ None → EarlierClear (suc n) → (e : Refusal) → n ≤ place_of e → Earlier e why → (later : Bool) → ltb n (place_of e) ≡ later → finds e ≡ None
       next q more e a b true t = more e (ltb-true _ _ t) b
       next q more e a b false t = let x : place_of w ≡ place_of e = (let y = ltb-false n (place_of e) t in let z = num.0 in omega arith) in rw (sym (one_place w e x)) q
 
-      go : (t : Found) → finds w ≡ t → (first_of finds l h ≡ Refused why at → (finds why ≡ At at) × EarlierClear (suc n)) → or_else w t (first_of finds l h) ≡ Refused why at → (finds why ≡ At at) × EarlierClear n
-      go Nowhere q more e = let m = more e in (m.0, λ x a b. next q m.1 x a b (ltb n (place_of x)) refl)
-      go (At place) q more e =
-          let same : w ≡ why = cc in
-          let there : place ≡ at = cc in
+      go : (t : Option ℕ) → finds w ≡ t → (first_of finds l h ≡ refused why at → (finds why ≡ Some at) × EarlierClear (suc n)) → or_else w t (first_of finds l h) ≡ refused why at → (finds why ≡ Some at) × EarlierClear n
+      go None q more e = let m = more e in (m.0, λ x a b. next q m.1 x a b (ltb n (place_of x)) refl)
+      go (Some place) q more e =
+          let is : ◌≡◌ {A = Refused} (record { why = w; place = place }) (record { why = why; place = at }) = cc in
+          let same : w ≡ why = ap (λ (r : Refused). r.why) is in
+          let there : place ≡ at = ap (λ (r : Refused). r.place) is in
           (rw (same, there) at q, λ x a b. absurd (let y : place_of why ≡ n = rw same at num.0 in omega arith))
 
   -- the other way: why is in the list, since its place is
-  refuses : (n : ℕ) (l : List Refusal) → Placed n l → n ≤ place_of why → place_of why < n + length l → finds why ≡ At at → EarlierClear n → first_of finds l h ≡ Refused why at
+  refuses : (n : ℕ) (l : List Refusal) → Placed n l → n ≤ place_of why → place_of why < n + length l → finds why ≡ Some at → EarlierClear n → first_of finds l h ≡ refused why at
   unfolding EarlierClear
   refuses n [] num a b q clear = absurd (omega arith)
   refuses n (w ∷ l) num a b q clear = go (ltb n (place_of why)) refl (refuses (suc n) l num.1)
     where
       go : (later : Bool) → ltb n (place_of why) ≡ later
-          → (suc n ≤ place_of why → place_of why < suc n + length l → finds why ≡ At at → EarlierClear (suc n) → first_of finds l h ≡ Refused why at)
-          → or_else w (finds w) (first_of finds l h) ≡ Refused why at
+          → (suc n ≤ place_of why → place_of why < suc n + length l → finds why ≡ Some at → EarlierClear (suc n) → first_of finds l h ≡ refused why at)
+          → or_else w (finds w) (first_of finds l h) ≡ refused why at
       go true t more =
           let y = ltb-true n (place_of why) t in
           let z = num.0 in
@@ -326,7 +325,7 @@ module _ (finds : Refusal → Found) (h : Header) (why : Refusal) (at : ℕ) whe
 
 -- Refusal `why` is given at place `at` exactly when the table's line says so and no earlier line gives a refusal (R32, R41 to R56).
 pub exactly : (f : List ℕ) (room : Room) (why : Refusal) (at : ℕ)
-    → (refusal_of f room ≡ Refused why at)
+    → (refusal_of f room ≡ refused why at)
     ↔ (Given (header_in f) f room why at × ((e : Refusal) → Earlier e why → (p : ℕ) → Given (header_in f) f room e p → ⊥))
 unfolding refusal_of EarlierClear
 exactly f room why at =
@@ -335,20 +334,20 @@ exactly f room why at =
       λ g. refuses (found h f room) h why at 0 refusals_in_order in_order (omega arith) (placed why).1 ((line h f room why at).1 g.0) (λ x a b. (clear_iff h f room x).1 (g.1 x b)),
     )
 
-clear_all : (finds : Refusal → Found) (l : List Refusal) → ((why : Refusal) → finds why ≡ Nowhere) → Clear finds l
+clear_all : (finds : Refusal → Option ℕ) (l : List Refusal) → ((why : Refusal) → finds why ≡ None) → Clear finds l
 clear_all finds [] c = tt
 clear_all finds (w ∷ l) c = (c w, clear_all finds l c)
 
-all_clear : (finds : Refusal → Found) (why : Refusal) (n : ℕ) (l : List Refusal) → Placed n l → n ≤ place_of why → place_of why < n + length l → Clear finds l → finds why ≡ Nowhere
+all_clear : (finds : Refusal → Option ℕ) (why : Refusal) (n : ℕ) (l : List Refusal) → Placed n l → n ≤ place_of why → place_of why < n + length l → Clear finds l → finds why ≡ None
 all_clear finds why n [] num a b c = absurd (omega arith)
 all_clear finds why n (w ∷ l) num a b c = go (ltb n (place_of why)) refl (all_clear finds why (suc n) l num.1)
   where
-    go : (later : Bool) → ltb n (place_of why) ≡ later → (suc n ≤ place_of why → place_of why < suc n + length l → Clear finds l → finds why ≡ Nowhere) → finds why ≡ Nowhere
+    go : (later : Bool) → ltb n (place_of why) ≡ later → (suc n ≤ place_of why → place_of why < suc n + length l → Clear finds l → finds why ≡ None) → finds why ≡ None
     go true t more = let y = ltb-true n (place_of why) t in more (omega arith) (omega arith) c.1
     go false t more = let x : place_of w ≡ place_of why = (let y = ltb-false n (place_of why) t in let z = num.0 in omega arith) in rw (sym (one_place w why x)) c.0
 
 -- A file is accepted exactly when no line of the table gives a refusal.
-pub exactly_accepted : (f : List ℕ) (room : Room) → (refusal_of f room ≡ Accepted (header_in f)) ↔ ((why : Refusal) (at : ℕ) → Given (header_in f) f room why at → ⊥)
+pub exactly_accepted : (f : List ℕ) (room : Room) → (refusal_of f room ≡ Ok (header_in f)) ↔ ((why : Refusal) (at : ℕ) → Given (header_in f) f room why at → ⊥)
 unfolding refusal_of
 exactly_accepted f room =
     let h : Header = header_in f in
@@ -358,5 +357,5 @@ exactly_accepted f room =
     )
 
 -- So the answer is one of the two: refused as the table says, or accepted with the file's header.
-pub answered : (f : List ℕ) (room : Room) (h : Header) → refusal_of f room ≡ Accepted h → h ≡ header_in f
+pub answered : (f : List ℕ) (room : Room) (h : Header) → refusal_of f room ≡ Ok h → h ≡ header_in f
 answered f room h e = (lawful f room h e).file.header

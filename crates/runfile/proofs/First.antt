@@ -5,8 +5,7 @@ use mathlib.Core.Bool.{Bool, true, false}
 use Prim.Native.Nat.{ℕ, suc, ◌+◌, ◌-◌, ◌≤◌, ◌<◌}
 use native.Mathlib.Numerals.{add-one}
 use native.Mathlib.Omega.{arith}
-use Rattle.runfile.specs.declared.Found.{Found}
-use Rattle.runfile.specs.declared.Found.TheVariants.{Nowhere, At}
+use Rattle.std.specs.Prelude.{Option, Some, None}
 use Rattle.runfile.specs.Refusals.{first_found, found_if, first_offender}
 use Rattle.runfile.specs.Format.{within}
 use Rattle.runfile.specs.Layout.{row_place}
@@ -15,8 +14,8 @@ use Rattle.runfile.specs.Layout.{row_place}
 pub row_fits : (stride start k rows size : ℕ) → k < rows → row_place stride start rows ≤ size → row_place stride start k + stride ≤ size
 row_fits stride start k rows size h p = let w = within stride start k rows h in omega arith
 
-module _ (finds : ℕ → Found) (n : ℕ) where
-  abbrev pub Left : ℕ → Found
+module _ (finds : ℕ → Option ℕ) (n : ℕ) where
+  abbrev pub Left : ℕ → Option ℕ
   Left i = first_found finds i (n - i)
 
   pub all_left : Left 0 ≡ first_found finds 0 n
@@ -25,30 +24,30 @@ module _ (finds : ℕ → Found) (n : ℕ) where
   less : (i : ℕ) → i < n → n - i ≡ suc (n - (i + 1))
   less i h = omega arith
 
-  pub found_here : (i at : ℕ) (all : Found) → i < n → finds i ≡ At at → Left i ≡ all → At at ≡ all
+  pub found_here : (i at : ℕ) (all : Option ℕ) → i < n → finds i ≡ Some at → Left i ≡ all → Some at ≡ all
   found_here i at all h t e = rw (less i h, t) at e
 
-  pub none_here : (i : ℕ) (all : Found) → i < n → finds i ≡ Nowhere → Left i ≡ all → Left (i + 1) ≡ all
+  pub none_here : (i : ℕ) (all : Option ℕ) → i < n → finds i ≡ None → Left i ≡ all → Left (i + 1) ≡ all
   none_here i all h t e = rw (less i h, t, ← add-one i) at e
 
-  pub none_left : (i : ℕ) (all : Found) → n ≤ i → Left i ≡ all → Nowhere ≡ all
+  pub none_left : (i : ℕ) (all : Option ℕ) → n ≤ i → Left i ≡ all → None ≡ all
   none_left i all h e = let z : n - i ≡ 0 = omega arith in rw z at e
 
 module _ (place : ℕ → ℕ) (offends : ℕ → Bool) (n : ℕ) where
-  abbrev tested : ℕ → Found
+  abbrev tested : ℕ → Option ℕ
   tested i = found_if (offends i) (place i)
 
-  abbrev pub From : ℕ → Found
+  abbrev pub From : ℕ → Option ℕ
   From i = first_offender place offends i (n - i)
 
   pub begin : From 0 ≡ first_offender place offends 0 n
   begin = all_left tested n
 
-  pub hit : (i : ℕ) (all : Found) → i < n → offends i ≡ true → From i ≡ all → At (place i) ≡ all
+  pub hit : (i : ℕ) (all : Option ℕ) → i < n → offends i ≡ true → From i ≡ all → Some (place i) ≡ all
   hit i all h t e = found_here tested n i (place i) all h (ap (λ b. found_if b (place i)) t) e
 
-  pub miss : (i : ℕ) (all : Found) → i < n → offends i ≡ false → From i ≡ all → From (i + 1) ≡ all
+  pub miss : (i : ℕ) (all : Option ℕ) → i < n → offends i ≡ false → From i ≡ all → From (i + 1) ≡ all
   miss i all h t e = none_here tested n i all h (ap (λ b. found_if b (place i)) t) e
 
-  pub over : (i : ℕ) (all : Found) → n ≤ i → From i ≡ all → Nowhere ≡ all
+  pub over : (i : ℕ) (all : Option ℕ) → n ≤ i → From i ≡ all → None ≡ all
   over i all h e = none_left tested n i all h e

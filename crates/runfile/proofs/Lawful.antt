@@ -1,12 +1,10 @@
 -- A file that is not refused is lawful: `lawful_file` of refusals 1 to 12, and `lawful` of all. A search that found nothing passed nothing
 -- (`none_offends`), so each check that found nothing gives its fact for every row, field and byte.
-use Rattle.std.specs.Prelude.{ℕ, suc, ◌+◌, ◌*◌, ◌-◌, ◌≤◌, ◌<◌, ◌≡◌, Bool, false, List, ltb, length, take}
+use Rattle.std.specs.Prelude.{ℕ, suc, ◌+◌, ◌*◌, ◌-◌, ◌≤◌, ◌<◌, ◌≡◌, Bool, false, List, ltb, length, take, None, Ok}
 use Rattle.std.proofs.Common.{sym, subst, arith, length-drop, ltb-false}
 use Rattle.runfile.specs.declared.Header.{Header}
 use Rattle.runfile.specs.declared.Field.{Field}
 use Rattle.runfile.specs.declared.Room.{Room}
-use Rattle.runfile.specs.declared.Found.TheVariants.{Nowhere}
-use Rattle.runfile.specs.declared.Checked.TheVariants.{Accepted}
 use Rattle.runfile.specs.Format.{least_head, offset_of}
 use Rattle.runfile.specs.Layout.{header_in, rows_start, stride_of, row_place, schedule_start, schedule_in}
 use Rattle.runfile.specs.Fields.{fields, field_at, order_of, ordered}
@@ -18,11 +16,11 @@ use Rattle.runfile.specs.Refusals.{found_if, first_offender}
 use Rattle.runfile.specs.Searches.{not_found, none_found}
 use Rattle.runfile.specs.Lawful.{LawfulFile, Lawful, lawful_head, lawful_row, not_same, lawful_byte, not_idle_byte}
 
-pub none_offends : (place : ℕ → ℕ) (offends : ℕ → Bool) (k n : ℕ) → first_offender place offends k n ≡ Nowhere → (j : ℕ) → k ≤ j → j < k + n → offends j ≡ false
+pub none_offends : (place : ℕ → ℕ) (offends : ℕ → Bool) (k n : ℕ) → first_offender place offends k n ≡ None → (j : ℕ) → k ≤ j → j < k + n → offends j ≡ false
 none_offends place offends k n e j a b = not_found (offends j) (place j) (none_found (λ i. found_if (offends i) (place i)) k n e j a b)
 
 -- of a row: no field is faulty
-pub no_bad_field : (h : Header) (s : ℕ) (f : List ℕ) (start k : ℕ) → bad_field_in h s f start k ≡ Nowhere → (x : Field) → bad_in h s f start k x ≡ false
+pub no_bad_field : (h : Header) (s : ℕ) (f : List ℕ) (start k : ℕ) → bad_field_in h s f start k ≡ None → (x : Field) → bad_in h s f start k x ≡ false
 no_bad_field h s f start k e x =
     let o = ordered x in
     subst (λ y. bad_in h s f start k y ≡ false) o.1 (none_offends (λ i. row_place s start k + offset_of s (field_at i)) (λ i. bad_in h s f start k (field_at i)) 0 (length fields) e (order_of x) (omega arith) (let b = o.0 in omega arith))
@@ -48,14 +46,14 @@ lawful_checks f room h is c =
       schedule = steps;
     }
 
-pub lawful_file : (f : List ℕ) (h : Header) → file_refusal f ≡ Accepted h → LawfulFile h f
+pub lawful_file : (f : List ℕ) (h : Header) → file_refusal f ≡ Ok h → LawfulFile h f
 unfolding file_refusal
 lawful_file f h e =
     let g : Header = header_in f in
     let a = accepts (found g f no_room) g file_checks h e in
     lawful_checks f no_room h (sym a.0) (rw a.0 at a.1)
 
-pub lawful : (f : List ℕ) (room : Room) (h : Header) → refusal_of f room ≡ Accepted h → Lawful h f room
+pub lawful : (f : List ℕ) (room : Room) (h : Header) → refusal_of f room ≡ Ok h → Lawful h f room
 unfolding refusal_of first_byte
 lawful f room h e =
     let g : Header = header_in f in

@@ -1,6 +1,6 @@
 -- A file of version 1 and its transcription to version 2 are checked alike (`checked_alike`). Check by check the two searches find alike, then the
 -- list of checks does.
-use Rattle.std.specs.Prelude.{ℕ, zero, suc, ◌+◌, ◌*◌, ◌-◌, ◌≤◌, ◌<◌, ◌≡◌, Bool, true, false, not, ◌&&◌, ◌||◌, List, [], ◌∷◌, leb, eqb, get_or, take}
+use Rattle.std.specs.Prelude.{ℕ, zero, suc, ◌+◌, ◌*◌, ◌-◌, ◌≤◌, ◌<◌, ◌≡◌, Bool, true, false, not, ◌&&◌, ◌||◌, List, [], ◌∷◌, leb, eqb, get_or, take, Option, Some, None}
 use Rattle.std.proofs.Math.Path.{refl, ap}
 use Rattle.std.proofs.Common.{sym, ap₂, subst, ◌∙◌, arith, eqb-true, eq-eqb, ne_eqb, le-ltb}
 use Rattle.std.proofs.Math.Bool.{and-false}
@@ -14,8 +14,6 @@ use Rattle.runfile.specs.declared.Field.TheVariants as field
 use Rattle.runfile.specs.declared.Room.{Room}
 use Rattle.runfile.specs.declared.Refusal.{Refusal}
 use Rattle.runfile.specs.declared.Refusal.TheVariants as refusal
-use Rattle.runfile.specs.declared.Found.{Found}
-use Rattle.runfile.specs.declared.Found.TheVariants.{Nowhere, At}
 use Rattle.runfile.specs.Format.{least_head, offset_of}
 use Rattle.runfile.specs.Layout.{header_in, rows_start, stride_of, row_place, schedule_start, schedule_in, length_given}
 use Rattle.runfile.specs.Fields.{fields, field_at}
@@ -26,11 +24,11 @@ use Rattle.runfile.specs.Table.{row_of, zero_byte_of}
 use Rattle.runfile.specs.Transcribed.{Transcribes, SameRow, SameField, SameByte, BothWhole, SamePlace, CheckedAlike}
 
 -- both found nothing, or both a place
-abbrev FoundAlike : (ℕ → ℕ → Type 0) → Found → Found → Type 0
-FoundAlike R Nowhere Nowhere = Unit
-FoundAlike R Nowhere (At q) = ⊥
-FoundAlike R (At p) Nowhere = ⊥
-FoundAlike R (At p) (At q) = R p q
+abbrev FoundAlike : (ℕ → ℕ → Type 0) → Option ℕ → Option ℕ → Type 0
+FoundAlike R None None = Unit
+FoundAlike R None (Some q) = ⊥
+FoundAlike R (Some p) None = ⊥
+FoundAlike R (Some p) (Some q) = R p q
 
 module _ (R : ℕ → ℕ → Type 0) where
   one_alike : (s t : Bool) (p q : ℕ) → s ≡ t → R p q → FoundAlike R (found_if s p) (found_if t q)
@@ -40,35 +38,35 @@ module _ (R : ℕ → ℕ → Type 0) where
       go true = r
       go false = tt
 
-  search_alike : (finds wide : ℕ → Found) (k n : ℕ) → ((j : ℕ) → k ≤ j → j < k + n → FoundAlike R (finds j) (wide j)) → FoundAlike R (first_found finds k n) (first_found wide k n)
+  search_alike : (finds wide : ℕ → Option ℕ) (k n : ℕ) → ((j : ℕ) → k ≤ j → j < k + n → FoundAlike R (finds j) (wide j)) → FoundAlike R (first_found finds k n) (first_found wide k n)
   search_alike finds wide k zero c = tt
   search_alike finds wide k (suc n) c = go (finds k) (wide k) (c k (omega arith) (omega arith)) (search_alike finds wide (suc k) n (λ j a b. c j (omega arith) (omega arith)))
     where
-      go : (s t : Found) → FoundAlike R s t → FoundAlike R (first_found finds (suc k) n) (first_found wide (suc k) n)
+      go : (s t : Option ℕ) → FoundAlike R s t → FoundAlike R (first_found finds (suc k) n) (first_found wide (suc k) n)
           → FoundAlike R (or_later s (first_found finds (suc k) n)) (or_later t (first_found wide (suc k) n))
-      go Nowhere Nowhere r more = more
-      go Nowhere (At q) r more = absurd r
-      go (At p) Nowhere r more = absurd r
-      go (At p) (At q) r more = r
+      go None None r more = more
+      go None (Some q) r more = absurd r
+      go (Some p) None r more = absurd r
+      go (Some p) (Some q) r more = r
 
   -- over as many numbers, said of both
-  searches_alike : (finds wide : ℕ → Found) (k n m : ℕ) → n ≡ m → ((j : ℕ) → k ≤ j → j < k + n → FoundAlike R (finds j) (wide j)) → FoundAlike R (first_found finds k n) (first_found wide k m)
+  searches_alike : (finds wide : ℕ → Option ℕ) (k n m : ℕ) → n ≡ m → ((j : ℕ) → k ≤ j → j < k + n → FoundAlike R (finds j) (wide j)) → FoundAlike R (first_found finds k n) (first_found wide k m)
   searches_alike finds wide k n m e c = subst (λ x. FoundAlike R (first_found finds k n) (first_found wide k x)) e (search_alike finds wide k n c)
 
 whole_alike : (s t : Bool) → s ≡ t → FoundAlike BothWhole (whole s) (whole t)
 whole_alike s t e = one_alike BothWhole s t 0 0 e (refl, refl)
 
-list_alike : (a b : Header) (finds wide : Refusal → Found) → ((why : Refusal) → FoundAlike (SamePlace a b why) (finds why) (wide why))
+list_alike : (a b : Header) (finds wide : Refusal → Option ℕ) → ((why : Refusal) → FoundAlike (SamePlace a b why) (finds why) (wide why))
     → (l : List Refusal) → CheckedAlike a b (first_of finds l a) (first_of wide l b)
 list_alike a b finds wide c [] = (refl, refl)
 list_alike a b finds wide c (why ∷ l) = go (finds why) (wide why) (c why) (list_alike a b finds wide c l)
   where
-    go : (s t : Found) → FoundAlike (SamePlace a b why) s t → CheckedAlike a b (first_of finds l a) (first_of wide l b)
+    go : (s t : Option ℕ) → FoundAlike (SamePlace a b why) s t → CheckedAlike a b (first_of finds l a) (first_of wide l b)
         → CheckedAlike a b (or_else why s (first_of finds l a)) (or_else why t (first_of wide l b))
-    go Nowhere Nowhere r more = more
-    go Nowhere (At q) r more = absurd r
-    go (At p) Nowhere r more = absurd r
-    go (At p) (At q) r more = (refl, r)
+    go None None r more = more
+    go None (Some q) r more = absurd r
+    go (Some p) None r more = absurd r
+    go (Some p) (Some q) r more = (refl, r)
 
 -- a length is the given one in both files or in neither
 tied : (n given m wide : ℕ) → m + given ≡ n + wide → eqb n given ≡ eqb m wide

@@ -1,18 +1,18 @@
 -- A file that is longer than the longest is decided by its first 7,308 bytes: refusals 1 to 7 look at the header, and then the length is
 -- wrong for both (R35). So a program may read 7,308 bytes and answer as the whole file would be.
-use Rattle.std.specs.Prelude.{ℕ, ◌+◌, ◌≤◌, ◌<◌, ◌≡◌, Bool, List, ◌∷◌, ◌++◌, length, take}
+use Rattle.std.specs.Prelude.{ℕ, ◌+◌, ◌≤◌, ◌<◌, ◌≡◌, Bool, List, ◌∷◌, ◌++◌, length, take, Result, Ok, Err}
 use Rattle.std.proofs.Math.Path.{refl}
 use Rattle.std.proofs.Common.{sym, ◌∙◌, arith, get_or-take, length-take-le, take_all, ltb-true, ltb-false, ne_eqb, le-ltb}
 use Rattle.std.proofs.Math.Bool.{true, false}
 use Rattle.std.proofs.Math.Dec.{ltb}
+use Rattle.runfile.specs.declared.Header.{Header}
 use Rattle.runfile.specs.declared.Room.{Room}
 use Rattle.runfile.specs.declared.Refusal.{Refusal}
 use Rattle.runfile.specs.declared.Refusal.TheVariants as refusal
-use Rattle.runfile.specs.declared.Checked.{Checked}
-use Rattle.runfile.specs.declared.Checked.TheVariants.{Accepted, Refused}
+use Rattle.runfile.specs.declared.Refused.{Refused}
 use Rattle.runfile.specs.Format.{least_head, longest_holds, longest_of_all, longest_most}
 use Rattle.runfile.specs.Layout.{u16_at, marked, header_in, length_given}
-use Rattle.runfile.specs.Refusals.{out_of_range, found, first_of, count_checks, body_checks, later_checks, refusal_of}
+use Rattle.runfile.specs.Refusals.{out_of_range, found, refused, first_of, count_checks, body_checks, later_checks, refusal_of}
 use Rattle.runfile.specs.Order.{passes, stops, accepts, whole_clear}
 use Rattle.runfile.specs.Lawful.{in_range}
 
@@ -55,15 +55,15 @@ module _ (f : List ℕ) (room : Room) where
     same-front : first_of (found (header_in f) (take enough f) room) front (header_in f) ≡ first_of (found (header_in f) f room) front (header_in f)
     same-front = rw (le-ltb (length (take enough f)) 11 (let s = size in omega arith), le-ltb (length f) 11 (omega arith), same_mark f enough (omega arith))
 
-    wrong-length : (x : List ℕ) → (length x ≡ length_given (header_in f) → ⊥) → first_of (found (header_in f) x room) (refusal.Length ∷ behind) (header_in f) ≡ Refused refusal.Length 0
+    wrong-length : (x : List ℕ) → (length x ≡ length_given (header_in f) → ⊥) → first_of (found (header_in f) x room) (refusal.Length ∷ behind) (header_in f) ≡ refused refusal.Length 0
     wrong-length x n = rw (ne_eqb (length x) (length_given (header_in f)) n)
 
-    answer : (c : Checked) → first_of (found (header_in f) f room) front (header_in f) ≡ c
+    answer : (c : Result Header Refused) → first_of (found (header_in f) f room) front (header_in f) ≡ c
         → first_of (found (header_in f) (take enough f) room) (front ++ (refusal.Length ∷ behind)) (header_in f) ≡ first_of (found (header_in f) f room) (front ++ (refusal.Length ∷ behind)) (header_in f)
-    answer (Refused why at) e =
-        stops (found (header_in f) (take enough f) room) (header_in f) front (refusal.Length ∷ behind) why at (same-front ∙ e)
-        ∙ sym (stops (found (header_in f) f room) (header_in f) front (refusal.Length ∷ behind) why at e)
-    answer (Accepted x) e =
+    answer (Err r) e =
+        stops (found (header_in f) (take enough f) room) (header_in f) front (refusal.Length ∷ behind) r (same-front ∙ e)
+        ∙ sym (stops (found (header_in f) f room) (header_in f) front (refusal.Length ∷ behind) r e)
+    answer (Ok x) e =
         let c = (accepts (found (header_in f) f room) (header_in f) front x e).1 in
         let r = c.1.1.1 in
         let w = (in_range (header_in f).words (whole_clear (out_of_range (header_in f).words) r.1.0)).1 in

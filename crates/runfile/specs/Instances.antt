@@ -1,14 +1,13 @@
 -- The definitions at files, by computation: case f (R266) is accepted, case l (R272) is refused by 11 at place 15, and one slip in each field
 -- of a row is refused by 9 at that field's first byte (R36), in both versions; and idle bytes of a schedule are refused by 16 (R56).
-use Rattle.std.specs.Prelude.{ℕ, ◌+◌, ◌≡◌, refl, List, [], ◌∷◌, ◌++◌, map, length}
+use Rattle.std.specs.Prelude.{ℕ, ◌+◌, ◌≡◌, refl, List, [], ◌∷◌, ◌++◌, map, length, Ok}
 use Rattle.runfile.specs.declared.Room.{Room}
 use Rattle.runfile.specs.declared.Refusal.TheVariants as refusal
-use Rattle.runfile.specs.declared.Checked.TheVariants.{Accepted, Refused}
 use Rattle.runfile.specs.Format.{head_size, word_size, row_size, new_place}
 use Rattle.runfile.specs.Layout.{u16_at, u32_at, u64_at, widened, marked, header_in, number_at, row_at}
 use Rattle.runfile.specs.Ups.{up_from, idles}
 use Rattle.runfile.specs.Operations.{words_of}
-use Rattle.runfile.specs.Refusals.{bad_field, same_fields, bad_byte, first_bad_field, first_row, first_later_row, first_byte, refusal_of}
+use Rattle.runfile.specs.Refusals.{bad_field, same_fields, bad_byte, first_bad_field, first_row, first_later_row, first_byte, refused, refusal_of}
 
 -- the file of case f (R266)
 abbrev case_f : List ℕ
@@ -23,11 +22,11 @@ case_l = 83 ∷ 87 ∷ 82 ∷ 1 ∷ 0 ∷ 1 ∷ 1 ∷ 1 ∷ 0 ∷ 0 ∷ 0 ∷ 7 
 abbrev enough : Room
 enough = record { words = 1; log = 60; answers = 60 }
 
-pub f_accepted : refusal_of case_f enough ≡ Accepted (record { version = 1; processes = 2; words = 1; rows = 2; steps = 12 })
+pub f_accepted : refusal_of case_f enough ≡ Ok (record { version = 1; processes = 2; words = 1; rows = 2; steps = 12 })
 unfolding refusal_of idles up_from head_size word_size row_size new_place header_in u16_at u32_at marked number_at row_at bad_field same_fields bad_byte first_bad_field first_row first_later_row first_byte
 f_accepted = refl
 
-pub l_refused : refusal_of case_l enough ≡ Refused refusal.Same 15
+pub l_refused : refusal_of case_l enough ≡ refused refusal.Same 15
 unfolding refusal_of idles up_from head_size word_size row_size new_place header_in u16_at u32_at marked number_at row_at bad_field same_fields bad_byte first_bad_field first_row first_later_row first_byte
 l_refused = refl
 
@@ -51,17 +50,17 @@ slips =
     ∷ []
 
 -- process, kind, word, zero byte, old, new; the slip in old and in new is in the second byte, and the first one's place is given
-pub slips_refused : map (λ row. refusal_of (with_rows sound row) enough) slips ≡ map (Refused refusal.Row) (23 ∷ 24 ∷ 25 ∷ 26 ∷ 27 ∷ 29 ∷ [])
+pub slips_refused : map (λ row. refusal_of (with_rows sound row) enough) slips ≡ map (refused refusal.Row) (23 ∷ 24 ∷ 25 ∷ 26 ∷ 27 ∷ 29 ∷ [])
 unfolding refusal_of idles up_from head_size word_size row_size new_place header_in u16_at u32_at marked number_at row_at bad_field same_fields bad_byte first_bad_field first_row first_later_row first_byte
 slips_refused = refl
 
 -- several slips in a row: the first one in file order counts
-pub first_slip : refusal_of (with_rows sound (1 ∷ 0 ∷ 1 ∷ 1 ∷ 7 ∷ 0 ∷ 8 ∷ 0 ∷ [])) enough ≡ Refused refusal.Row 25
+pub first_slip : refusal_of (with_rows sound (1 ∷ 0 ∷ 1 ∷ 1 ∷ 7 ∷ 0 ∷ 8 ∷ 0 ∷ [])) enough ≡ refused refusal.Row 25
 unfolding refusal_of idles up_from head_size word_size row_size new_place header_in u16_at u32_at marked number_at row_at bad_field same_fields bad_byte first_bad_field first_row first_later_row first_byte
 first_slip = refl
 
 -- the last field of the first row comes before the first field of the second
-pub first-row : refusal_of (with_rows (0 ∷ 0 ∷ 0 ∷ 0 ∷ 0 ∷ 0 ∷ 8 ∷ 0 ∷ []) (2 ∷ 2 ∷ 1 ∷ 1 ∷ 7 ∷ 0 ∷ 8 ∷ 0 ∷ [])) enough ≡ Refused refusal.Row 21
+pub first-row : refusal_of (with_rows (0 ∷ 0 ∷ 0 ∷ 0 ∷ 0 ∷ 0 ∷ 8 ∷ 0 ∷ []) (2 ∷ 2 ∷ 1 ∷ 1 ∷ 7 ∷ 0 ∷ 8 ∷ 0 ∷ [])) enough ≡ refused refusal.Row 21
 unfolding refusal_of idles up_from head_size word_size row_size new_place header_in u16_at u32_at marked number_at row_at bad_field same_fields bad_byte first_bad_field first_row first_later_row first_byte
 first-row = refl
 
@@ -76,7 +75,7 @@ wide_sound = 0 ∷ 0 ∷ 0 ∷ 0 ∷ 0 ∷ 0 ∷ 0 ∷ 0 ∷ 0 ∷ 0 ∷ 0 ∷ 0
 abbrev wide_compare : List ℕ
 wide_compare = 1 ∷ 1 ∷ 0 ∷ 0 ∷ 255 ∷ 255 ∷ 255 ∷ 255 ∷ 0 ∷ 0 ∷ 0 ∷ 0 ∷ []
 
-pub second_accepted : refusal_of (wide_rows wide_sound wide_compare) enough ≡ Accepted (record { version = 2; processes = 2; words = 1; rows = 2; steps = 0 })
+pub second_accepted : refusal_of (wide_rows wide_sound wide_compare) enough ≡ Ok (record { version = 2; processes = 2; words = 1; rows = 2; steps = 0 })
 unfolding refusal_of idles up_from head_size word_size row_size new_place header_in u16_at u32_at marked number_at row_at bad_field same_fields bad_byte first_bad_field first_row first_later_row first_byte
 second_accepted = refl
 
@@ -91,12 +90,12 @@ wide_slips =
     ∷ (1 ∷ 0 ∷ 0 ∷ 0 ∷ 0 ∷ 0 ∷ 0 ∷ 0 ∷ 0 ∷ 0 ∷ 0 ∷ 1 ∷ [])
     ∷ []
 
-pub wide_slips_refused : map (λ row. refusal_of (wide_rows wide_sound row) enough) wide_slips ≡ map (Refused refusal.Row) (31 ∷ 32 ∷ 33 ∷ 34 ∷ 35 ∷ 39 ∷ [])
+pub wide_slips_refused : map (λ row. refusal_of (wide_rows wide_sound row) enough) wide_slips ≡ map (refused refusal.Row) (31 ∷ 32 ∷ 33 ∷ 34 ∷ 35 ∷ 39 ∷ [])
 unfolding refusal_of idles up_from head_size word_size row_size new_place header_in u16_at u32_at marked number_at row_at bad_field same_fields bad_byte first_bad_field first_row first_later_row first_byte
 wide_slips_refused = refl
 
 -- old and new alike in all four bytes: 11, at the row's first byte (R51)
-pub second-same : refusal_of (wide_rows wide_sound (1 ∷ 1 ∷ 0 ∷ 0 ∷ 7 ∷ 0 ∷ 0 ∷ 1 ∷ 7 ∷ 0 ∷ 0 ∷ 1 ∷ [])) enough ≡ Refused refusal.Same 31
+pub second-same : refusal_of (wide_rows wide_sound (1 ∷ 1 ∷ 0 ∷ 0 ∷ 7 ∷ 0 ∷ 0 ∷ 1 ∷ 7 ∷ 0 ∷ 0 ∷ 1 ∷ [])) enough ≡ refused refusal.Same 31
 unfolding refusal_of idles up_from head_size word_size row_size new_place header_in u16_at u32_at marked number_at row_at bad_field same_fields bad_byte first_bad_field first_row first_later_row first_byte
 second-same = refl
 
@@ -105,12 +104,12 @@ abbrev wide_advance : (old amount : ℕ) → List ℕ
 wide_advance old amount = 1 ∷ 2 ∷ 0 ∷ 0 ∷ old ∷ 0 ∷ 0 ∷ 0 ∷ amount ∷ 0 ∷ 0 ∷ 0 ∷ []
 
 pub advances-judged : map (λ row. refusal_of (wide_rows wide_sound row) enough) (wide_advance 0 5 ∷ wide_advance 1 5 ∷ wide_advance 0 0 ∷ [])
-    ≡ Accepted (record { version = 2; processes = 2; words = 1; rows = 2; steps = 0 }) ∷ Refused refusal.Row 35 ∷ Refused refusal.Same 31 ∷ []
+    ≡ Ok (record { version = 2; processes = 2; words = 1; rows = 2; steps = 0 }) ∷ refused refusal.Row 35 ∷ refused refusal.Same 31 ∷ []
 unfolding refusal_of idles up_from head_size word_size row_size new_place header_in u16_at u32_at marked number_at row_at bad_field same_fields bad_byte first_bad_field first_row first_later_row first_byte
 advances-judged = refl
 
 -- versions 0 and 3 are refused by 3 (R43)
-pub unknown_versions : map (λ v. refusal_of (83 ∷ 87 ∷ 82 ∷ v ∷ 0 ∷ 1 ∷ 1 ∷ 0 ∷ 0 ∷ 0 ∷ 0 ∷ []) enough) (0 ∷ 3 ∷ []) ≡ map (Refused refusal.Version) (0 ∷ 0 ∷ [])
+pub unknown_versions : map (λ v. refusal_of (83 ∷ 87 ∷ 82 ∷ v ∷ 0 ∷ 1 ∷ 1 ∷ 0 ∷ 0 ∷ 0 ∷ 0 ∷ []) enough) (0 ∷ 3 ∷ []) ≡ map (refused refusal.Version) (0 ∷ 0 ∷ [])
 unfolding refusal_of idles up_from head_size word_size row_size new_place header_in u16_at u32_at marked number_at row_at bad_field same_fields bad_byte first_bad_field first_row first_later_row first_byte
 unknown_versions = refl
 
@@ -130,7 +129,7 @@ with_bytes bytes = 83 ∷ 87 ∷ 82 ∷ 1 ∷ 0 ∷ 2 ∷ 1 ∷ 0 ∷ 0 ∷ leng
 
 -- 10 00 20 11 F0 F0 01 20 21: a crash, a step of the one that is down, its wake; a crash of the other and then of all, twice; a step of one that is
 -- down, and a wake of each
-pub busy_accepted : refusal_of (with_bytes (16 ∷ 0 ∷ 32 ∷ 17 ∷ 240 ∷ 240 ∷ 1 ∷ 32 ∷ 33 ∷ [])) enough ≡ Accepted (record { version = 1; processes = 2; words = 1; rows = 0; steps = 9 })
+pub busy_accepted : refusal_of (with_bytes (16 ∷ 0 ∷ 32 ∷ 17 ∷ 240 ∷ 240 ∷ 1 ∷ 32 ∷ 33 ∷ [])) enough ≡ Ok (record { version = 1; processes = 2; words = 1; rows = 0; steps = 9 })
 unfolding refusal_of idles up_from head_size word_size row_size new_place header_in u16_at u32_at marked number_at row_at bad_field same_fields bad_byte first_bad_field first_row first_later_row first_byte
 busy_accepted = refl
 
@@ -139,11 +138,11 @@ abbrev idle_schedules : List (List ℕ)
 idle_schedules = (0 ∷ 32 ∷ []) ∷ (16 ∷ 17 ∷ 16 ∷ []) ∷ (240 ∷ 0 ∷ 0 ∷ 17 ∷ []) ∷ (240 ∷ 33 ∷ 33 ∷ []) ∷ (32 ∷ 255 ∷ []) ∷ []
 
 pub idle_refused : map (λ bytes. refusal_of (with_bytes bytes) enough) idle_schedules
-    ≡ Refused refusal.Idle 16 ∷ Refused refusal.Idle 17 ∷ Refused refusal.Idle 18 ∷ Refused refusal.Idle 17 ∷ Refused refusal.Action 16 ∷ []
+    ≡ refused refusal.Idle 16 ∷ refused refusal.Idle 17 ∷ refused refusal.Idle 18 ∷ refused refusal.Idle 17 ∷ refused refusal.Action 16 ∷ []
 unfolding refusal_of idles up_from head_size word_size row_size new_place header_in u16_at u32_at marked number_at row_at bad_field same_fields bad_byte first_bad_field first_row first_later_row first_byte
 idle_refused = refl
 
 -- 16 goes before 13
-pub idle_before_room : refusal_of (with_bytes (32 ∷ [])) (record { words = 0; log = 0; answers = 0 }) ≡ Refused refusal.Idle 15
+pub idle_before_room : refusal_of (with_bytes (32 ∷ [])) (record { words = 0; log = 0; answers = 0 }) ≡ refused refusal.Idle 15
 unfolding refusal_of idles up_from head_size word_size row_size new_place header_in u16_at u32_at marked number_at row_at bad_field same_fields bad_byte first_bad_field first_row first_later_row first_byte
 idle_before_room = refl

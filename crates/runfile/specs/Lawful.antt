@@ -1,6 +1,6 @@
 -- What a file is like that is not refused: the facts that later layers use, read off the checks that found nothing. For the whole list of checks
 -- proofs/Lawful.antt does it (`lawful`, `lawful_file`).
-use Rattle.std.specs.Prelude.{ℕ, zero, suc, ◌*◌, ◌/◌, ◌%◌, ◌≤◌, ◌<◌, ◌≡◌, refl, ◌⊎◌, Bool, true, false, cond, not, ◌&&◌, ◌||◌, List, ltb, eqb, get_or, length, take}
+use Rattle.std.specs.Prelude.{ℕ, zero, suc, ◌*◌, ◌/◌, ◌%◌, ◌≤◌, ◌<◌, ◌≡◌, refl, ◌⊎◌, Bool, true, false, cond, not, ◌&&◌, ◌||◌, List, ltb, eqb, get_or, length, take, Ok}
 use Rattle.std.proofs.Common.{◌∙◌, ap, inl, inr, true≢false, arith, ltb-false, leb-false, eqb-true, eq-eqb, ne_eqb}
 use Rattle.std.proofs.lemmas.Bool.{eqb-false, not-false, lt-leb}
 use Rattle.runfile.specs.declared.Header.{Header}
@@ -10,7 +10,6 @@ use Rattle.runfile.specs.declared.Kind.TheVariants.{Read, Compare, Advance}
 use Rattle.runfile.specs.declared.Field.{Field}
 use Rattle.runfile.specs.declared.Field.TheVariants as field
 use Rattle.runfile.specs.declared.Room.{Room}
-use Rattle.runfile.specs.declared.Checked.TheVariants.{Accepted}
 use Rattle.runfile.specs.Format.{least_head, longest_file, longest_holds, longest_of_all, longest_most}
 use Rattle.runfile.specs.Layout.{marked, header_in, schedule_in, length_given}
 use Rattle.runfile.specs.Actions.{Action, step, crash, wake, crash_all, none, action_of, action, named}
@@ -197,10 +196,10 @@ not_idle_test before byte n = go (action byte) (is_up before (named byte)) n.cra
     go none up c w = refl
 
 -- a file that is accepted with some buffers is not refused by 1 to 12
-pub room-file : (f : List ℕ) (room : Room) (h : Header) → refusal_of f room ≡ Accepted h → file_refusal f ≡ Accepted h
+pub room-file : (f : List ℕ) (room : Room) (h : Header) → refusal_of f room ≡ Ok h → file_refusal f ≡ Ok h
 unfolding file_refusal refusal_of
 room-file f room h e =
     let g = header_in f in
     let a = accepts (found g f room) g refusals_in_order h e in
     let c = (clear_parts (found g f room) file_checks later_checks a.1).0 in
-    accepted (found g f no_room) g file_checks c ∙ ap Accepted a.0
+    accepted (found g f no_room) g file_checks c ∙ ap Ok a.0

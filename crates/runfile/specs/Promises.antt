@@ -1,12 +1,12 @@
 -- The contracts of the public functions, and that each leaves no second outcome. A contract of one equation, or of one with a bound beside it for the
 -- caller's arithmetic, is that under a name, so that a caller rewrites with it as it stands.
-use Rattle.std.specs.Prelude.{ℕ, ◌<◌, ◌≡◌, Bool, cond, List, ltb, length}
+use Rattle.std.specs.Prelude.{ℕ, ◌<◌, ◌≡◌, Bool, cond, List, ltb, length, Result}
 use Rattle.std.proofs.Common.{sym, ◌∙◌}
 use Rattle.runfile.specs.declared.Room.{Room}
 use Rattle.runfile.specs.declared.Row.{Row}
 use Rattle.runfile.specs.declared.Kind.{Kind}
 use Rattle.runfile.specs.declared.Refusal.{Refusal}
-use Rattle.runfile.specs.declared.Checked.{Checked}
+use Rattle.runfile.specs.declared.Refused.{Refused}
 use Rattle.runfile.specs.declared.Header.{Header}
 use Rattle.runfile.specs.Format.{least_head, RowSize}
 use Rattle.runfile.specs.Layout.{header_in, u32_at, word_in, row_of_table, stride_of, rows_start, schedule_start}
@@ -18,7 +18,7 @@ use Rattle.runfile.specs.Shares.{Counted, Summed, sum_to, sixteen_one}
 use Rattle.runfile.specs.Refusals.{number_of, bad_byte, refusal_of, file_refusal}
 
 -- `check(file, room)`, for every byte string and every three lengths (R240)
-pub record Decides (f : List ℕ) (room : Room) (r : Checked) : Type 0 where
+pub record Decides (f : List ℕ) (room : Room) (r : Result Header Refused) : Type 0 where
   pub result : r ≡ refusal_of f room
 
 -- `refusal_number(why)` (R41 to R56)
@@ -26,13 +26,13 @@ pub record Numbers (why : Refusal) (r : ℕ) : Type 0 where
   pub result : r ≡ number_of why
 
 -- `check_file(file)`: refusals 1 to 12 alone
-abbrev pub DecidesFile : (f : List ℕ) (r : Checked) → Type 0
+abbrev pub DecidesFile : (f : List ℕ) (r : Result Header Refused) → Type 0
 DecidesFile f r = r ≡ file_refusal f
 
-pub decides_file_one : (f : List ℕ) (r q : Checked) → DecidesFile f r → DecidesFile f q → r ≡ q
+pub decides_file_one : (f : List ℕ) (r q : Result Header Refused) → DecidesFile f r → DecidesFile f q → r ≡ q
 decides_file_one f r q a b = a ∙ sym b
 
-pub decides_one : (f : List ℕ) (room : Room) (r q : Checked) → Decides f room r → Decides f room q → r ≡ q
+pub decides_one : (f : List ℕ) (room : Room) (r q : Result Header Refused) → Decides f room r → Decides f room q → r ≡ q
 decides_one f room r q a b = a.result ∙ sym b.result
 
 pub numbers_one : (why : Refusal) (r q : ℕ) → Numbers why r → Numbers why q → r ≡ q

@@ -1,6 +1,6 @@
 -- What is refused, as a computation (R30 to R56). `found` is the table, a line for each refusal; Table.antt says the same in propositions,
 -- and proofs/Exactly.antt proves that the two agree.
-use Rattle.std.specs.Prelude.{ℕ, zero, suc, ◌+◌, ◌*◌, ◌-◌, Bool, true, false, not, ◌&&◌, ◌||◌, List, [], ◌∷◌, ◌++◌, leb, ltb, eqb, get_or, length, take}
+use Rattle.std.specs.Prelude.{ℕ, zero, suc, ◌+◌, ◌*◌, ◌-◌, Bool, true, false, not, ◌&&◌, ◌||◌, List, [], ◌∷◌, ◌++◌, leb, ltb, eqb, get_or, length, take, Option, Some, None, Result, Ok, Err}
 use Rattle.runfile.specs.declared.Header.{Header}
 use Rattle.runfile.specs.declared.Row.{Row}
 use Rattle.runfile.specs.declared.Kind.{Kind}
@@ -10,10 +10,7 @@ use Rattle.runfile.specs.declared.Field.TheVariants as field
 use Rattle.runfile.specs.declared.Room.{Room}
 use Rattle.runfile.specs.declared.Refusal.{Refusal}
 use Rattle.runfile.specs.declared.Refusal.TheVariants as refusal
-use Rattle.runfile.specs.declared.Found.{Found}
-use Rattle.runfile.specs.declared.Found.TheVariants.{Nowhere, At}
-use Rattle.runfile.specs.declared.Checked.{Checked}
-use Rattle.runfile.specs.declared.Checked.TheVariants.{Accepted, Refused}
+use Rattle.runfile.specs.declared.Refused.{Refused}
 use Rattle.runfile.specs.Format.{least_head, offset_of}
 use Rattle.runfile.specs.Layout.{marked, header_in, rows_start, stride_of, row_place, row_in, zero_byte_at, schedule_start, schedule_in, length_given}
 use Rattle.runfile.specs.Fields.{fields, field_at}
@@ -105,48 +102,48 @@ unfoldable pub bad_byte : ℕ → ℕ → Bool
 bad_byte processes byte = bad_action processes (named byte) (action byte)
 
 -- what is found first, going by the numbers k, k + 1, .. (n of them; R33)
-abbrev pub or_later : Found → Found → Found
-or_later (At place) later = At place
-or_later Nowhere later = later
+abbrev pub or_later : Option ℕ → Option ℕ → Option ℕ
+or_later (Some place) later = Some place
+or_later None later = later
 
-abbrev pub first_found : (ℕ → Found) → ℕ → ℕ → Found
-first_found finds k zero = Nowhere
+abbrev pub first_found : (ℕ → Option ℕ) → ℕ → ℕ → Option ℕ
+first_found finds k zero = None
 first_found finds k (suc n) = or_later (finds k) (first_found finds (suc k) n)
 
 -- the first offender among these numbers, and its place
-abbrev pub found_if : Bool → ℕ → Found
-found_if true place = At place
-found_if false place = Nowhere
+abbrev pub found_if : Bool → ℕ → Option ℕ
+found_if true place = Some place
+found_if false place = None
 
-abbrev pub first_offender : (ℕ → ℕ) → (ℕ → Bool) → ℕ → ℕ → Found
+abbrev pub first_offender : (ℕ → ℕ) → (ℕ → Bool) → ℕ → ℕ → Option ℕ
 first_offender place offends = first_found (λ k. found_if (offends k) (place k))
 
 -- the place of the first faulty field, in file order: in row k, and over the n rows from `start` on (R36)
-abbrev pub bad_field_in : Header → ℕ → List ℕ → ℕ → ℕ → Found
+abbrev pub bad_field_in : Header → ℕ → List ℕ → ℕ → ℕ → Option ℕ
 bad_field_in h stride f start k = first_offender (λ i. row_place stride start k + offset_of stride (field_at i)) (λ i. bad_in h stride f start k (field_at i)) 0 (length fields)
 
-unfoldable pub first_bad_field : Header → ℕ → List ℕ → ℕ → ℕ → Found
+unfoldable pub first_bad_field : Header → ℕ → List ℕ → ℕ → ℕ → Option ℕ
 first_bad_field h stride f start n = first_found (bad_field_in h stride f start) 0 n
 
 -- over the n rows from `start` on, the row's first byte; over those that have a row before; of the file as a whole, 0
-unfoldable pub first_row : ℕ → ℕ → ℕ → (ℕ → Bool) → Found
+unfoldable pub first_row : ℕ → ℕ → ℕ → (ℕ → Bool) → Option ℕ
 first_row stride start n offends = first_offender (row_place stride start) offends 0 n
 
-unfoldable pub first_later_row : ℕ → ℕ → ℕ → (ℕ → Bool) → Found
+unfoldable pub first_later_row : ℕ → ℕ → ℕ → (ℕ → Bool) → Option ℕ
 first_later_row stride start n offends = first_offender (row_place stride start) offends 1 (n - 1)
 
 -- over the schedule, that byte: the test sees the bytes before it, and the byte
 abbrev pub offends_at : (List ℕ → ℕ → Bool) → List ℕ → ℕ → Bool
 offends_at offends bytes i = offends (take i bytes) (get_or bytes i 0)
 
-unfoldable pub first_byte : ℕ → (List ℕ → ℕ → Bool) → List ℕ → Found
+unfoldable pub first_byte : ℕ → (List ℕ → ℕ → Bool) → List ℕ → Option ℕ
 first_byte start offends bytes = first_offender (λ i. start + i) (offends_at offends bytes) 0 (length bytes)
 
-abbrev pub whole : Bool → Found
+abbrev pub whole : Bool → Option ℕ
 whole t = found_if t 0
 
 -- the table: what each check finds, over the whole file (R41 to R56)
-abbrev pub found : Header → List ℕ → Room → Refusal → Found
+abbrev pub found : Header → List ℕ → Room → Refusal → Option ℕ
 found h f room refusal.Short = whole (ltb (length f) least_head)
 found h f room refusal.Mark = whole (not (marked f))
 found h f room refusal.Version = whole (unknown_version h.version)
@@ -165,12 +162,15 @@ found h f room refusal.LogRoom = whole (ltb room.log (5 * h.steps))
 found h f room refusal.AnswersRoom = whole (ltb room.answers (5 * h.steps))
 
 -- the checks in order, each over the whole file: the first that finds something decides (R32, R33)
-abbrev pub or_else : Refusal → Found → Checked → Checked
-or_else why (At place) later = Refused why place
-or_else why Nowhere later = later
+abbrev pub refused : Refusal → ℕ → Result Header Refused
+refused why at = Err (record { why = why; place = at })
 
-abbrev pub first_of : (Refusal → Found) → List Refusal → Header → Checked
-first_of finds [] h = Accepted h
+abbrev pub or_else : Refusal → Option ℕ → Result Header Refused → Result Header Refused
+or_else why (Some place) later = refused why place
+or_else why None later = later
+
+abbrev pub first_of : (Refusal → Option ℕ) → List Refusal → Header → Result Header Refused
+first_of finds [] h = Ok h
 first_of finds (why ∷ later) h = or_else why (finds why) (first_of finds later h)
 
 abbrev pub count_checks : List Refusal
@@ -215,12 +215,12 @@ place_of refusal.LogRoom = 14
 place_of refusal.AnswersRoom = 15
 
 -- the whole answer (R30)
-unfoldable pub refusal_of : List ℕ → Room → Checked
+unfoldable pub refusal_of : List ℕ → Room → Result Header Refused
 refusal_of f room = first_of (found (header_in f) f room) refusals_in_order (header_in f)
 
 -- refusals 1 to 12 alone: they look at no buffer (R221)
 abbrev pub no_room : Room
 no_room = record { words = 0; log = 0; answers = 0 }
 
-unfoldable pub file_refusal : List ℕ → Checked
+unfoldable pub file_refusal : List ℕ → Result Header Refused
 file_refusal f = first_of (found (header_in f) f no_room) file_checks (header_in f)

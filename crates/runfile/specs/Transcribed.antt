@@ -1,6 +1,6 @@
 -- What it is that a file of version 1 and its transcription to version 2 are checked alike: both accepted, or both refused by the same number, at
 -- places that are those of the same row, field or schedule byte. That they are is `checked_alike` (proofs/Transcribed.antt); and their tables are alike.
-use Rattle.std.specs.Prelude.{ℕ, zero, suc, ◌+◌, ◌*◌, ◌≤◌, ◌<◌, ◌≡◌, List, ◌∷◌}
+use Rattle.std.specs.Prelude.{ℕ, zero, suc, ◌+◌, ◌*◌, ◌≤◌, ◌<◌, ◌≡◌, List, ◌∷◌, Result, Ok, Err}
 use Rattle.std.proofs.Math.Path.{refl, ap}
 use Rattle.std.proofs.Common.{sym, ap₂, ◌∙◌, arith, zero-mul, suc-mul}
 use Rattle.std.proofs.Math.ListN.{length}
@@ -8,8 +8,7 @@ use Rattle.runfile.specs.declared.Header.{Header}
 use Rattle.runfile.specs.declared.Field.{Field}
 use Rattle.runfile.specs.declared.Refusal.{Refusal}
 use Rattle.runfile.specs.declared.Refusal.TheVariants as refusal
-use Rattle.runfile.specs.declared.Checked.{Checked}
-use Rattle.runfile.specs.declared.Checked.TheVariants.{Accepted, Refused}
+use Rattle.runfile.specs.declared.Refused.{Refused}
 use Rattle.runfile.specs.Format.{least_head, offset_of}
 use Rattle.runfile.specs.Layout.{marked, header_in, rows_start, stride_of, row_place, row_at, schedule_start, schedule_in, length_given}
 use Rattle.runfile.specs.Operations.{words_of, rows_from, table_of}
@@ -76,11 +75,11 @@ SamePlace a b refusal.LogRoom p q = BothWhole p q
 SamePlace a b refusal.AnswersRoom p q = BothWhole p q
 
 -- both accepted, each with its header; or both refused by the same refusal, at places that go together
-abbrev pub CheckedAlike : Header → Header → Checked → Checked → Type 0
-CheckedAlike a b (Accepted x) (Accepted y) = (x ≡ a) × (y ≡ b)
-CheckedAlike a b (Accepted x) (Refused why q) = ⊥
-CheckedAlike a b (Refused why p) (Accepted y) = ⊥
-CheckedAlike a b (Refused why p) (Refused reason q) = (reason ≡ why) × SamePlace a b why p q
+abbrev pub CheckedAlike : Header → Header → Result Header Refused → Result Header Refused → Type 0
+CheckedAlike a b (Ok x) (Ok y) = (x ≡ a) × (y ≡ b)
+CheckedAlike a b (Ok x) (Err s) = ⊥
+CheckedAlike a b (Err r) (Ok y) = ⊥
+CheckedAlike a b (Err r) (Err s) = (s.why ≡ r.why) × SamePlace a b r.why r.place s.place
 
 -- rows that are alike one by one are alike as lists
 next : (stride at k : ℕ) → at + stride + k * stride ≡ at + suc k * stride

@@ -30,7 +30,7 @@ pub use shares::{counts_of, firsts_of};
 pub const ENOUGH_BYTES: usize = 7308;
 
 // What the first eleven bytes give, after the mark (R2).
-#[derive(Clone, Copy)]
+#[derive(Clone, Copy, Debug, PartialEq, Eq)]
 pub struct Header {
     pub version: u16,
     pub processes: u8,
@@ -40,7 +40,7 @@ pub struct Header {
 }
 
 // What an operation does: kind 0 reads, kind 1 compares and swaps, kind 2 advances a mark (R11).
-#[derive(Clone, Copy)]
+#[derive(Clone, Copy, Debug, PartialEq, Eq)]
 pub enum Kind {
     Read,
     Compare,
@@ -48,7 +48,7 @@ pub enum Kind {
 }
 
 // An operation, with the number of its kind. Old and new of version 1, of two bytes each, are widened (R10).
-#[derive(Clone, Copy)]
+#[derive(Clone, Copy, Debug, PartialEq, Eq)]
 pub struct Row {
     pub process: u8,
     pub kind: u8,
@@ -58,7 +58,7 @@ pub struct Row {
 }
 
 // The fields of a row as they stand in the file, in their order there (R10).
-#[derive(Clone, Copy)]
+#[derive(Clone, Copy, Debug, PartialEq, Eq)]
 pub enum Field {
     Process,
     Kind,
@@ -69,7 +69,7 @@ pub enum Field {
 }
 
 // How many numbers each of the three lent buffers holds.
-#[derive(Clone, Copy)]
+#[derive(Clone, Copy, Debug, PartialEq, Eq)]
 pub struct Room {
     pub words: usize,
     pub log: usize,
@@ -77,7 +77,7 @@ pub struct Room {
 }
 
 // The refusals in the order of their checks (R32); `refusal_number` gives the numbers.
-#[derive(Clone, Copy)]
+#[derive(Clone, Copy, Debug, PartialEq, Eq)]
 pub enum Refusal {
     Short,
     Mark,
@@ -97,18 +97,11 @@ pub enum Refusal {
     AnswersRoom,
 }
 
-// What one check finds: no offender, or the place of the first one.
-#[derive(Clone, Copy)]
-pub enum Found {
-    Nowhere,
-    At(usize),
-}
-
-// The answer: accepted, with the header, or refused, with the place counted in bytes from 0 (R30, R31).
-#[derive(Clone, Copy)]
-pub enum Checked {
-    Accepted(Header),
-    Refused(Refusal, usize),
+// A file that is refused: by which check, and the place, counted in bytes from 0 (R30, R31).
+#[derive(Clone, Copy, Debug, PartialEq, Eq)]
+pub struct Refused {
+    pub why: Refusal,
+    pub place: usize,
 }
 
 // The number of a refusal (R41 to R56).
@@ -156,113 +149,152 @@ fn is_out_of_range(count: u8) -> bool
 }
 
 // Refusals 3 to 7: what the header counts (R43 to R47).
-fn check_counts(header: Header) -> Checked
+fn check_counts(header: Header) -> Result<Header, Refused>
     ensures { (f : List ℕ) → result ≡ first_of (found header f no_room) count_checks header }
 {
     if is_unknown(header.version) {
-        return Checked::Refused(Refusal::Version, 0);
+        return Err(Refused {
+            why: Refusal::Version,
+            place: 0,
+        });
     }
     if is_out_of_range(header.processes) {
-        return Checked::Refused(Refusal::Processes, 0);
+        return Err(Refused {
+            why: Refusal::Processes,
+            place: 0,
+        });
     }
     if is_out_of_range(header.words) {
-        return Checked::Refused(Refusal::Words, 0);
+        return Err(Refused {
+            why: Refusal::Words,
+            place: 0,
+        });
     }
     if header.rows > 512 {
-        return Checked::Refused(Refusal::Rows, 0);
+        return Err(Refused {
+            why: Refusal::Rows,
+            place: 0,
+        });
     }
     if header.steps > 1024 {
-        return Checked::Refused(Refusal::Steps, 0);
+        return Err(Refused {
+            why: Refusal::Steps,
+            place: 0,
+        });
     }
-    Checked::Accepted(header)
+    Ok(header)
 }
 
 // Refusals 2 to 8: the mark, the header, and the length that it gives (R42 to R48).
-fn check_head(file: &[u8], header: Header) -> Checked
+fn check_head(file: &[u8], header: Header) -> Result<Header, Refused>
     requires { least_head ≤ length file.now }
     ensures { result ≡ first_of (found header file.now no_room) head_checks header }
 {
     if !has_mark(file) {
-        return Checked::Refused(Refusal::Mark, 0);
+        return Err(Refused {
+            why: Refusal::Mark,
+            place: 0,
+        });
     }
-    let counts = check_counts(header);
-    let Checked::Accepted(_) = counts else {
-        return counts;
-    };
+    check_counts(header)?;
     if file.len() != length_given(header) {
-        return Checked::Refused(Refusal::Length, 0);
+        return Err(Refused {
+            why: Refusal::Length,
+            place: 0,
+        });
     }
-    Checked::Accepted(header)
+    Ok(header)
 }
 
 // Refusals 9 to 12, one whole search after the other (R33, R49 to R52).
-fn check_body(file: &[u8], header: Header) -> Checked
+fn check_body(file: &[u8], header: Header) -> Result<Header, Refused>
     requires { (length file.now ≡ length_given header) × (length file.now ≤ longest_of_all) }
     ensures { result ≡ first_of (found header file.now no_room) body_checks header }
 {
     let rows_at = rows_start(header);
     let stride = stride_of(header);
     let rows = index16(header.rows);
-    if let Found::At(place) = first_bad_field(file, rows_at, stride, rows, header) {
-        return Checked::Refused(Refusal::Row, place);
+    if let Some(place) = first_bad_field(file, rows_at, stride, rows, header) {
+        return Err(Refused {
+            why: Refusal::Row,
+            place,
+        });
     }
-    if let Found::At(place) = first_below(file, rows_at, stride, rows) {
-        return Checked::Refused(Refusal::Order, place);
+    if let Some(place) = first_below(file, rows_at, stride, rows) {
+        return Err(Refused {
+            why: Refusal::Order,
+            place,
+        });
     }
-    if let Found::At(place) = first_same(file, rows_at, stride, rows) {
-        return Checked::Refused(Refusal::Same, place);
+    if let Some(place) = first_same(file, rows_at, stride, rows) {
+        return Err(Refused {
+            why: Refusal::Same,
+            place,
+        });
     }
     let start = schedule_start(header);
-    if let Found::At(place) = first_bad_byte(&file[start..], start, header.processes) {
-        return Checked::Refused(Refusal::Action, place);
+    if let Some(place) = first_bad_byte(&file[start..], start, header.processes) {
+        return Err(Refused {
+            why: Refusal::Action,
+            place,
+        });
     }
-    Checked::Accepted(header)
+    Ok(header)
 }
 
 // Refusals 1 to 12, for any bytes (R41 to R52): on the panel, 16 is not asked of the file's own schedule (R221).
 #[tactic(auto, unfolding(crate::specs::Refusals::file_refusal))]
-pub fn check_file(file: &[u8]) -> Checked
+pub fn check_file(file: &[u8]) -> Result<Header, Refused>
     ensures { DecidesFile file.now result }
 {
     if file.len() < 11 {
-        return Checked::Refused(Refusal::Short, 0);
+        return Err(Refused {
+            why: Refusal::Short,
+            place: 0,
+        });
     }
     let header = header_of(file);
-    let head = check_head(file, header);
-    let Checked::Accepted(_) = head else {
-        return head;
-    };
+    check_head(file, header)?;
     check_body(file, header)
 }
 
 // Refusals 13 to 15: a log row and an answer row of five numbers for each schedule byte (R53 to R55).
-fn check_room(header: Header, room: Room) -> Checked
+fn check_room(header: Header, room: Room) -> Result<Header, Refused>
     ensures { (f : List ℕ) → result ≡ first_of (found header f room) room_checks header }
 {
     let rows_room = 5 * index16(header.steps);
     if room.words < index8(header.words) {
-        return Checked::Refused(Refusal::WordsRoom, 0);
+        return Err(Refused {
+            why: Refusal::WordsRoom,
+            place: 0,
+        });
     }
     if room.log < rows_room {
-        return Checked::Refused(Refusal::LogRoom, 0);
+        return Err(Refused {
+            why: Refusal::LogRoom,
+            place: 0,
+        });
     }
     if room.answers < rows_room {
-        return Checked::Refused(Refusal::AnswersRoom, 0);
+        return Err(Refused {
+            why: Refusal::AnswersRoom,
+            place: 0,
+        });
     }
-    Checked::Accepted(header)
+    Ok(header)
 }
 
 // Whether a run file is refused when buffers of these lengths are lent with it: for any bytes and any lengths.
-pub fn check(file: &[u8], room: Room) -> Checked
+pub fn check(file: &[u8], room: Room) -> Result<Header, Refused>
     ensures { Decides file.now room result }
 {
-    let checked = check_file(file);
-    let Checked::Accepted(header) = checked else {
-        return checked;
-    };
+    let header = check_file(file)?;
     let start = schedule_start(header);
-    if let Found::At(place) = first_idle(&file[start..], start) {
-        return Checked::Refused(Refusal::Idle, place);
+    if let Some(place) = first_idle(&file[start..], start) {
+        return Err(Refused {
+            why: Refusal::Idle,
+            place,
+        });
     }
     check_room(header, room)
 }

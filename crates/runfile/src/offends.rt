@@ -9,7 +9,7 @@ ghost use Rattle.runfile.specs.Refusals.{bad_kind, zero_old, zero_new, bad_numbe
 use super::format::{new_place, offset_of};
 use super::kinds::kind_numbered;
 use super::read::{index8, number_at};
-use super::{Field, Found, Header, Kind};
+use super::{Field, Header, Kind};
 
 // The order in which a row's fields are looked at: that of the file (R36).
 const FIELDS: [Field; 6] = [
@@ -131,11 +131,11 @@ pub fn first_bad_field(
     stride: usize,
     rows: usize,
     header: Header,
-) -> Found
+) -> Option<usize>
     requires { RowSize stride × (row_place stride start rows ≤ length file.now) }
     ensures { result ≡ first_bad_field header stride file.now start rows }
 {
-    let mut found = Found::Nowhere;
+    let mut found = None;
     let mut k = 0;
     'rows: while k < rows {
         let at = start + k * stride;
@@ -143,7 +143,7 @@ pub fn first_bad_field(
         'fields: while i < 6 {
             let field = FIELDS[i];
             if is_bad_field(file, at, stride, field, header) {
-                found = Found::At(at + offset_of(field, stride));
+                found = Some(at + offset_of(field, stride));
                 break 'rows;
             }
             i += 1;
@@ -154,7 +154,7 @@ pub fn first_bad_field(
 }
 
 // Refusal 10: the first row whose process is smaller than that of the row in front of it, so from the second row on (R50).
-pub fn first_below(file: &[u8], start: usize, stride: usize, rows: usize) -> Found
+pub fn first_below(file: &[u8], start: usize, stride: usize, rows: usize) -> Option<usize>
     requires { RowSize stride × (row_place stride start rows ≤ length file.now) }
     ensures { result ≡ first_later_row stride start rows (below stride file.now start) }
 {
@@ -163,15 +163,15 @@ pub fn first_below(file: &[u8], start: usize, stride: usize, rows: usize) -> Fou
         let place = start + k * stride;
         let before = place - stride;
         if file[place] < file[before] {
-            return Found::At(place);
+            return Some(place);
         }
         k += 1;
     }
-    Found::Nowhere
+    None
 }
 
 // Refusal 11: the first row that compares and has old and new alike (R51).
-pub fn first_same(file: &[u8], start: usize, stride: usize, rows: usize) -> Found
+pub fn first_same(file: &[u8], start: usize, stride: usize, rows: usize) -> Option<usize>
     requires { RowSize stride × (row_place stride start rows ≤ length file.now) }
     ensures { result ≡ first_row stride start rows (same stride file.now start) }
 {
@@ -179,31 +179,31 @@ pub fn first_same(file: &[u8], start: usize, stride: usize, rows: usize) -> Foun
     while k < rows {
         let at = start + k * stride;
         if is_same(file, at, stride) {
-            return Found::At(at);
+            return Some(at);
         }
         k += 1;
     }
-    Found::Nowhere
+    None
 }
 
 // Refusal 12: the first byte that is no action (R52). The schedule is lent as a part of the file, which begins at `start` (R304).
-pub fn first_bad_byte(schedule: &[u8], start: usize, processes: u8) -> Found
+pub fn first_bad_byte(schedule: &[u8], start: usize, processes: u8) -> Option<usize>
     requires { start + length schedule.now ≤ longest_of_all }
     ensures { result ≡ first_byte start (λ before. bad_byte processes) schedule.now }
 {
     let mut i = 0;
     while i < schedule.len() {
         if is_bad_byte(schedule[i], processes) {
-            return Found::At(start + i);
+            return Some(start + i);
         }
         i += 1;
     }
-    Found::Nowhere
+    None
 }
 
 // Refusal 16: the first byte that is idle (R56). At first all are up. A byte names a process by four bits (R71), so sixteen entries serve every byte,
 // also one that names no process of the file; in `check` there is none, since 12 has gone before.
-pub fn first_idle(schedule: &[u8], start: usize) -> Found
+pub fn first_idle(schedule: &[u8], start: usize) -> Option<usize>
     requires { start + length schedule.now ≤ longest_of_all }
     ensures { result ≡ first_byte start idles schedule.now }
 {
@@ -217,7 +217,7 @@ pub fn first_idle(schedule: &[u8], start: usize) -> Found
         if byte >= 16 {
             let p = index8(byte % 16);
             if is_idle(byte, up[p]) {
-                return Found::At(start + here);
+                return Some(start + here);
             }
             match byte / 16 {
                 1 => {
@@ -233,5 +233,5 @@ pub fn first_idle(schedule: &[u8], start: usize) -> Found
             }
         }
     }
-    Found::Nowhere
+    None
 }

@@ -7,7 +7,7 @@ use lib.Seq.{take_all}
 use Rattle.runfile.specs.Format.{RowSize}
 use Rattle.runfile.specs.Layout.{row_place, rows_start, stride_of, schedule_start, length_given}
 use Rattle.runfile.specs.Refusals.{found, no_room, first_bad_field, first_later_row, below, first_row, same, first_byte, bad_byte}
-use Rattle.runfile.specs.declared.Found.{Found}
+use Rattle.std.specs.Prelude.{Option}
 use Rattle.runfile.specs.declared.Header.{Header}
 use Rattle.runfile.specs.declared.Refusal.TheVariants as refusal
 use Rattle.runfile.proofs.check_body.Goals as goal
@@ -26,17 +26,17 @@ module _ (f : List ℕ) {h : Header} {at stride rows : ℕ} (on : HandedOn h at 
   rows_in : RowSize stride → length f ≡ length_given h → RowSize stride × (row_place stride at rows ≤ length f)
   rows_in size e = (size, rw (on.begins, on.each, on.all) (omega arith))
 
-  row_found : {r : Found} → r ≡ first_bad_field h stride f at rows → found h f no_room refusal.Row ≡ r
+  row_found : {r : Option ℕ} → r ≡ first_bad_field h stride f at rows → found h f no_room refusal.Row ≡ r
   row_found q = sym (rw (on.begins, on.each, on.all) at q)
 
-  order_found : {r : Found} → r ≡ first_later_row stride at rows (below stride f at) → found h f no_room refusal.Order ≡ r
+  order_found : {r : Option ℕ} → r ≡ first_later_row stride at rows (below stride f at) → found h f no_room refusal.Order ≡ r
   order_found q = sym (rw (on.begins, on.each, on.all) at q)
 
-  same_found : {r : Found} → r ≡ first_row stride at rows (same stride f at) → found h f no_room refusal.Same ≡ r
+  same_found : {r : Option ℕ} → r ≡ first_row stride at rows (same stride f at) → found h f no_room refusal.Same ≡ r
   same_found q = sym (rw (on.begins, on.each, on.all) at q)
 
 -- the schedule is handed on as the file's part from its start to the end
-action_found : (f : List ℕ) (h : Header) {at : ℕ} → at ≡ schedule_start h → {r : Found} → r ≡ first_byte at (λ before. bad_byte h.processes) (take (length f - at) (drop at f)) → found h f no_room refusal.Action ≡ r
+action_found : (f : List ℕ) (h : Header) {at : ℕ} → at ≡ schedule_start h → {r : Option ℕ} → r ≡ first_byte at (λ before. bad_byte h.processes) (take (length f - at) (drop at f)) → found h f no_room refusal.Action ≡ r
 action_found f h a q =
     let at : ℕ = schedule_start h in
     sym (rw (a, take_all (length f - at) (drop at f) (simp length-drop (omega arith))) at q)
@@ -47,11 +47,11 @@ first_bad_field-requires c =
     let on = handed c.args.header c.rows_start-rows_at.ensures.0 c.stride_of-stride.ensures.0 c.index16-rows.ensures.0 in
     rows_in f on c.stride_of-stride.ensures.1 c.requires.0
 
-pub returns-in-At : goal.returns-in-At
-returns-in-At c =
+pub returns-in-Some : goal.returns-in-Some
+returns-in-Some c =
     let f = c.args.file.now in
     let on = handed c.args.header c.rows_start-rows_at.ensures.0 c.stride_of-stride.ensures.0 c.index16-rows.ensures.0 in
-    rw (row_found f on c.first_bad_field.ensures ∙ c.in-At.is)
+    rw (row_found f on c.first_bad_field.ensures ∙ c.in-Some.is)
 
 pub first_below-requires : goal.first_below-requires
 first_below-requires c =
@@ -59,11 +59,11 @@ first_below-requires c =
     let on = handed c.args.header c.rows_start-rows_at.ensures.0 c.stride_of-stride.ensures.0 c.index16-rows.ensures.0 in
     rows_in f on c.stride_of-stride.ensures.1 c.requires.0
 
-pub returns-in-At-first_below : goal.returns-in-At-first_below
-returns-in-At-first_below c =
+pub returns-in-Some-first_below : goal.returns-in-Some-first_below
+returns-in-Some-first_below c =
     let f = c.args.file.now in
     let on = handed c.args.header c.rows_start-rows_at.ensures.0 c.stride_of-stride.ensures.0 c.index16-rows.ensures.0 in
-    rw (row_found f on c.first_bad_field.ensures ∙ c.in_default.is, order_found f on c.first_below.ensures ∙ c.in-At-first_below.is)
+    rw (row_found f on c.first_bad_field.ensures ∙ c.in_default.is, order_found f on c.first_below.ensures ∙ c.in-Some-first_below.is)
 
 pub first_same-requires : goal.first_same-requires
 first_same-requires c =
@@ -71,17 +71,17 @@ first_same-requires c =
     let on = handed c.args.header c.rows_start-rows_at.ensures.0 c.stride_of-stride.ensures.0 c.index16-rows.ensures.0 in
     rows_in f on c.stride_of-stride.ensures.1 c.requires.0
 
-pub returns-in-At-first_same : goal.returns-in-At-first_same
-returns-in-At-first_same c =
+pub returns-in-Some-first_same : goal.returns-in-Some-first_same
+returns-in-Some-first_same c =
     let f = c.args.file.now in
     let on = handed c.args.header c.rows_start-rows_at.ensures.0 c.stride_of-stride.ensures.0 c.index16-rows.ensures.0 in
-    rw (row_found f on c.first_bad_field.ensures ∙ c.in_default.is, order_found f on c.first_below.ensures ∙ c.in_default-first_below.is, same_found f on c.first_same.ensures ∙ c.in-At-first_same.is)
+    rw (row_found f on c.first_bad_field.ensures ∙ c.in_default.is, order_found f on c.first_below.ensures ∙ c.in_default-first_below.is, same_found f on c.first_same.ensures ∙ c.in-Some-first_same.is)
 
-pub returns-in-At-first_bad_byte : goal.returns-in-At-first_bad_byte
-returns-in-At-first_bad_byte c =
+pub returns-in-Some-first_bad_byte : goal.returns-in-Some-first_bad_byte
+returns-in-Some-first_bad_byte c =
     let f = c.args.file.now in
     let on = handed c.args.header c.rows_start-rows_at.ensures.0 c.stride_of-stride.ensures.0 c.index16-rows.ensures.0 in
-    rw (row_found f on c.first_bad_field.ensures ∙ c.in_default.is, order_found f on c.first_below.ensures ∙ c.in_default-first_below.is, same_found f on c.first_same.ensures ∙ c.in_default-first_same.is, action_found f c.args.header c.schedule_start-start.ensures.0 c.first_bad_byte.ensures ∙ c.in-At-first_bad_byte.is)
+    rw (row_found f on c.first_bad_field.ensures ∙ c.in_default.is, order_found f on c.first_below.ensures ∙ c.in_default-first_below.is, same_found f on c.first_same.ensures ∙ c.in_default-first_same.is, action_found f c.args.header c.schedule_start-start.ensures.0 c.first_bad_byte.ensures ∙ c.in-Some-first_bad_byte.is)
 
 pub returns : goal.returns
 returns c =

@@ -6,7 +6,7 @@ use Rattle.runfile.specs.Format.{offset_of}
 use Rattle.runfile.specs.Fields.{field_at}
 use Rattle.runfile.specs.Layout.{row_place}
 use Rattle.runfile.specs.declared.Header.{Header}
-use Rattle.runfile.specs.declared.Found.TheVariants.{Nowhere}
+use Rattle.std.specs.Prelude.{None}
 use Prim.Native.Nat.{ℕ, ◌+◌, ◌≤◌, ◌-◌}
 use mathlib.Core.List.{List}
 use mathlib.Core.Bool.{Bool}
@@ -20,13 +20,13 @@ abbrev pub bad_at : Header → ℕ → List ℕ → ℕ → ℕ → ℕ → Bool
 bad_at header stride file start k i = bad_in header stride file start k (field_at i)
 
 abbrev pub invariant-fields : goal.invariant-fields
-invariant-fields l = (l.i ≤ 6) × (l.found ≡ Nowhere) × (From (place l.stride l.start l.k) (bad_at l.header l.stride l.file l.start l.k) 6 l.i ≡ bad_field_in l.header l.stride l.file l.start l.k)
+invariant-fields l = (l.i ≤ 6) × (l.found ≡ None) × (From (place l.stride l.start l.k) (bad_at l.header l.stride l.file l.start l.k) 6 l.i ≡ bad_field_in l.header l.stride l.file l.start l.k)
 
 abbrev pub decreases-fields : goal.decreases-fields
 decreases-fields l = 6 - l.i
 
 abbrev pub invariant-rows : goal.invariant-rows
-invariant-rows l = (l.k ≤ l.rows) × (l.found ≡ Nowhere) × (Left (bad_field_in l.header l.stride l.file l.start) l.rows l.k ≡ first_found (bad_field_in l.header l.stride l.file l.start) 0 l.rows)
+invariant-rows l = (l.k ≤ l.rows) × (l.found ≡ None) × (Left (bad_field_in l.header l.stride l.file l.start) l.rows l.k ≡ first_found (bad_field_in l.header l.stride l.file l.start) 0 l.rows)
 
 abbrev pub decreases-rows : goal.decreases-rows
 decreases-rows l = l.rows - l.k
