@@ -1,6 +1,6 @@
 -- The twelve bench cases (R260 to R272), in both versions, and the bench files of advances (R11) as one table, and one statement, by computation: the
 -- definitions that `run`'s contract cites give on each file what the table says (R295).
-use Rattle.std.specs.Prelude.{ℕ, ◌+◌, ◌*◌, ◌/◌, ◌%◌, ◌^◌, ◌≡◌, refl, List, [], ◌∷◌, ◌++◌, map, length, replicate}
+use Rattle.std.specs.Prelude.{ℕ, ◌+◌, ◌*◌, ◌/◌, ◌%◌, ◌^◌, ◌≡◌, refl, List, [], ◌∷◌, ◌++◌, map, length, replicate, Ok, Err}
 use Rattle.runfile.specs.Format.{head_size, word_size, row_size, new_place}
 use Rattle.runfile.specs.Layout.{u16_at, u32_at, u64_at, widened, marked, header_in, number_at, row_at}
 use Rattle.runfile.specs.Operations.{words_of, rows_from, table_of, row_numbered, first, count, names}
@@ -12,9 +12,7 @@ use Rattle.rows.specs.Log.{one_past, place, insert, is_swap, first_swap}
 use Rattle.rows.specs.Buffers.{five, infront}
 use Rattle.machine.specs.Steps.{spoken, tried_in, storing_in, decide_in, step_turn_in}
 use Rattle.machine.specs.Machine.{turn_in, apply, applied, proc_at, act_in, step_in, after_in, begin}
-use Rattle.run.specs.declared.Outcome.{Outcome}
-use Rattle.run.specs.declared.Outcome.TheVariants as outcome
-use Rattle.run.specs.Run.{end_of, room_of, outcome_of, words_left, log_left, answers_left, Ends}
+use Rattle.run.specs.Run.{Outcome, end_of, room_of, outcome_of, words_left, log_left, answers_left, Ends}
 
 -- lists of numbers, one after the other
 joined : List (List ℕ) → List ℕ
@@ -82,19 +80,19 @@ pub lent_rows : List ℕ
 lent_rows = replicate 155 99
 
 -- what a run comes to, in numbers: the refusal and its place, or the two row counts (R185); then the three buffers
-pub data Result : Type 0 where
-  refused : (number place : ℕ) → Result
-  ran : (log answers : ℕ) → Result
+pub data Numbers : Type 0 where
+  refused : (number place : ℕ) → Numbers
+  ran : (log answers : ℕ) → Numbers
 
 pub record Ended : Type 0 where
-  pub result : Result
+  pub result : Numbers
   pub words : List ℕ
   pub log : List ℕ
   pub answers : List ℕ
 
-pub result_of : Outcome → Result
-result_of (outcome.Refused why at) = refused (number_of why) at
-result_of (outcome.Ran log answers) = ran log answers
+pub result_of : Outcome → Numbers
+result_of (Err r) = refused (number_of r.why) r.place
+result_of (Ok counts) = ran counts.log counts.answers
 
 -- a case: the file, and what is said of it in R261 to R272
 pub record Case : Type 0 where

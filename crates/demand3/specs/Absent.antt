@@ -1,15 +1,14 @@
 -- The flip bits of every run file that is not refused, at the end of its schedule: the bits of processes that are not there are those of the start
 -- words, and so is the bit of a process in a word of whose swaps on it the log does not tell. For the new of a row that is not refused fits 16 bits.
 -- Assumes of the file that its numbers are bytes, which is what `run` is lent (`&[u8]`).
-use Rattle.std.specs.Prelude.{ℕ, zero, suc, ◌≤◌, ◌<◌, Bool, true, false, List, [], ◌∷◌, ◌++◌, ltb, length, get_or, drop}
+use Rattle.std.specs.Prelude.{ℕ, zero, suc, ◌≤◌, ◌<◌, Bool, true, false, List, [], ◌∷◌, ◌++◌, ltb, length, get_or, drop, Result, Ok, Err}
 use Rattle.std.proofs.Math.Path.{◌≡◌, refl, ap, subst}
 use Rattle.std.proofs.Common.{sym, ◌∙◌, arith, ltb-true, ltb-false}
 use Rattle.std.proofs.Math.ListN.{get_or-append}
 use Rattle.std.proofs.lemmas.List.{get_or_at}
 use Rattle.runfile.specs.declared.Header.{Header}
 use Rattle.runfile.specs.declared.Room.{Room}
-use Rattle.runfile.specs.declared.Checked.{Checked}
-use Rattle.runfile.specs.declared.Checked.TheVariants as checked
+use Rattle.runfile.specs.declared.Refused.{Refused}
 use Rattle.runfile.specs.Layout.{header_in, word_in, schedule_in}
 use Rattle.runfile.specs.Operations.{words_from, words_of, table_of}
 use Rattle.runfile.specs.OperationLaws.{length-words_from}
@@ -18,8 +17,7 @@ use Rattle.runfile.specs.Lawful.{Lawful}
 use Rattle.runfile.proofs.Lawful.{lawful}
 use Rattle.word.specs.Word.{bit}
 use Rattle.rows.specs.Buffers.{infront}
-use Rattle.run.specs.declared.Outcome.TheVariants as outcome
-use Rattle.run.specs.Run.{end_of, room_of, EndsAs, Ends}
+use Rattle.run.specs.Run.{end_of, room_of, ran, EndsAs, Ends}
 use Rattle.machine.specs.Absent.{Fitting, turned_by, told_swaps}
 use Rattle.machine.proofs.Absent.{absent_kept, log_tells_bit, unlogged_kept}
 use Rattle.demand3.specs.Plans.{good_at}
@@ -75,14 +73,14 @@ module _ (f : List ℕ) (bytes : Bytes f) (words log answers : List ℕ) (n m : 
 
   -- Whatever the three buffers held, if `run` says that it ran, then in each of the W words that it leaves the bits of processes that are not there
   -- are those of the start word in the file
-  pub absent_run : Ends f words log answers (outcome.Ran n m) words' log' answers'
+  pub absent_run : Ends f words log answers (ran n m) words' log' answers'
       → (header_in f).processes ≤ q → w < (header_in f).words → bit q (get_or words' w 0) ≡ bit q (word_in (header_in f).version f w)
   unfolding words_of
   absent_run e = go (refusal_of f (room_of words log answers)) refl e
     where
-      go : (c : Checked) → refusal_of f (room_of words log answers) ≡ c → EndsAs c f words log answers (outcome.Ran n m) words' log' answers' → Kept (header_in f)
-      go (checked.Refused why place) r e = absurd (let x : outcome.Ran n m ≡ outcome.Refused why place = e.result in let z : ◌≡◌ {A = ℕ} 0 1 = cc in omega arith)
-      go (checked.Accepted h) r e =
+      go : (c : Result Header Refused) → refusal_of f (room_of words log answers) ≡ c → EndsAs c f words log answers (ran n m) words' log' answers' → Kept (header_in f)
+      go (Err x) r e = absurd (let x : ran n m ≡ Err x = e.result in let z : ◌≡◌ {A = ℕ} 0 1 = cc in omega arith)
+      go (Ok h) r e =
           let l : Lawful h f (room_of words log answers) = lawful f (room_of words log answers) h r in
           subst Kept l.file.header
           (λ a i. ap (λ ws. bit q (get_or ws w 0)) e.words_are ∙ ap (bit q) (left h l i) ∙ absent_file f bytes h (room_of words log answers) l q w a ∙ ap (bit q) (word_there h.version f h.words w i))

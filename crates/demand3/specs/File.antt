@@ -2,15 +2,14 @@
 -- the rows, and the rows in the buffers are those of the log and of the answers.
 -- Assumes of the file that its numbers are bytes, which is what `run` is lent (`&[u8]`).
 use Prim.Native.Nat.{ℕ, suc, ◌≤◌, ◌<◌}
-use Rattle.std.specs.Prelude.{◌≡◌, refl, List, ◌++◌, map, length}
+use Rattle.std.specs.Prelude.{◌≡◌, refl, List, ◌++◌, map, length, Result, Ok, Err}
 use Rattle.std.proofs.Math.Path.{sym, ap, subst}
 use Rattle.std.proofs.Common.{◌∙◌, arith}
 use Rattle.std.proofs.Math.ListN.{take, drop}
 use Rattle.std.proofs.Math.Seq.{take-append_seam}
 use Rattle.runfile.specs.declared.Header.{Header}
 use Rattle.runfile.specs.declared.Room.{Room}
-use Rattle.runfile.specs.declared.Checked.{Checked}
-use Rattle.runfile.specs.declared.Checked.TheVariants as checked
+use Rattle.runfile.specs.declared.Refused.{Refused}
 use Rattle.runfile.specs.Layout.{byte_at, header_in, rows_start, stride_of, row_place, schedule_in}
 use Rattle.runfile.specs.RowLaws.{new_fits}
 use Rattle.runfile.specs.Operations.{words_of, table_of, row_numbered}
@@ -23,8 +22,7 @@ use Rattle.word.specs.Word.{value}
 use Rattle.rows.specs.declared.Entry.{Entry}
 use Rattle.rows.specs.Buffers.{rows_of, infront}
 use Rattle.rows.specs.BufferLaws.{rows_back}
-use Rattle.run.specs.declared.Outcome.TheVariants as outcome
-use Rattle.run.specs.Run.{end_of, room_of, EndsAs, Ends}
+use Rattle.run.specs.Run.{end_of, room_of, ran, ran_same, EndsAs, Ends}
 use Rattle.replay.specs.Replay.{Good, good_row}
 use Rattle.demand3.specs.FlipBit.{OfFlipBit}
 use Rattle.demand3.specs.Plans.{Plan}
@@ -80,22 +78,21 @@ module _ (f : List ℕ) (bytes : Bytes f) where
         ∙ take-append_seam (end_of h f).words (drop (length (end_of h f).words) words)
 
     -- the buffers as a run leaves them, read: the first n rows of the log, the first m of the answers, and W words
-    pub demand3_buffers : (words log answers : List ℕ) (n m : ℕ) (words' log' answers' : List ℕ) → EndsAs (checked.Accepted h) f words log answers (outcome.Ran n m) words' log' answers'
+    pub demand3_buffers : (words log answers : List ℕ) (n m : ℕ) (words' log' answers' : List ℕ) → EndsAs (Ok h) f words log answers (ran n m) words' log' answers'
         → OfFile h f (rows_of n log') (rows_of m answers') (map value (take h.words words'))
     demand3_buffers words log answers n m words' log' answers' e =
-        let counts : outcome.Ran n m ≡ outcome.Ran (length (end_of h f).log) (length (end_of h f).answers) = e.result in
-        let rows : n ≡ length (end_of h f).log = cc in
-        let told : m ≡ length (end_of h f).answers = cc in
-        rw (rows, told, e.words_are, e.log_is, e.answers_are, rows_back (end_of h f).log log, rows_back (end_of h f).answers answers, words_front words) demand3_file
+        let counts : ran n m ≡ ran (length (end_of h f).log) (length (end_of h f).answers) = e.result in
+        let same = ran_same counts in
+        rw (same.0, same.1, e.words_are, e.log_is, e.answers_are, rows_back (end_of h f).log log, rows_back (end_of h f).answers answers, words_front words) demand3_file
 
   -- Demand 3: whatever the three buffers held, if `run` says that it ran, with n log rows and m answer rows, then so it is of what the
   -- buffers hold
-  pub demand3_run : (words log answers : List ℕ) (n m : ℕ) (words' log' answers' : List ℕ) → Ends f words log answers (outcome.Ran n m) words' log' answers'
+  pub demand3_run : (words log answers : List ℕ) (n m : ℕ) (words' log' answers' : List ℕ) → Ends f words log answers (ran n m) words' log' answers'
       → OfFile (header_in f) f (rows_of n log') (rows_of m answers') (map value (take (header_in f).words words'))
   demand3_run words log answers n m words' log' answers' e = go (refusal_of f (room_of words log answers)) refl e
     where
-      go : (c : Checked) → refusal_of f (room_of words log answers) ≡ c → EndsAs c f words log answers (outcome.Ran n m) words' log' answers' → OfFile (header_in f) f (rows_of n log') (rows_of m answers') (map value (take (header_in f).words words'))
-      go (checked.Refused why place) q e = absurd (let x : outcome.Ran n m ≡ outcome.Refused why place = e.result in let z : ◌≡◌ {A = ℕ} 0 1 = cc in omega arith)
-      go (checked.Accepted h) q e =
+      go : (c : Result Header Refused) → refusal_of f (room_of words log answers) ≡ c → EndsAs c f words log answers (ran n m) words' log' answers' → OfFile (header_in f) f (rows_of n log') (rows_of m answers') (map value (take (header_in f).words words'))
+      go (Err r) q e = absurd (let x : ran n m ≡ Err r = e.result in let z : ◌≡◌ {A = ℕ} 0 1 = cc in omega arith)
+      go (Ok h) q e =
           let l : Lawful h f (room_of words log answers) = lawful f (room_of words log answers) h q in
           subst (λ g. OfFile g f (rows_of n log') (rows_of m answers') (map value (take g.words words'))) l.file.header (demand3_buffers h (room_of words log answers) l words log answers n m words' log' answers' e)

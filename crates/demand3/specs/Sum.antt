@@ -18,8 +18,7 @@ use Rattle.word.specs.Laws.{value-fits}
 use Rattle.rows.specs.declared.Entry.{Entry}
 use Rattle.rows.specs.Buffers.{rows_of}
 use Rattle.machine.specs.Machine.{begin}
-use Rattle.run.specs.declared.Outcome.TheVariants as outcome
-use Rattle.run.specs.Run.{Ends}
+use Rattle.run.specs.Run.{ran, Ends}
 use Rattle.replay.specs.Sum.{added, Advanced, summed, none_compares}
 use Rattle.demand3.specs.Statement.{Firmware, Demand3}
 use Rattle.demand3.specs.FlipBit.{flip_bit}
@@ -47,7 +46,7 @@ module _ (m : Firmware) (rows : List Row) (schedule : List ℕ) (log answers : L
 
 -- Whatever the three buffers held, if `run` says that it ran, with n log rows, then so it is of the words that it leaves, of the start words in the file
 -- and of the log's rows. Assumes of the file that its numbers are bytes, which is what `run` is lent (`&[u8]`)
-module _ (f : List ℕ) (bytes : Bytes f) (words log answers : List ℕ) (n m : ℕ) (words' log' answers' : List ℕ) (e : Ends f words log answers (outcome.Ran n m) words' log' answers')
+module _ (f : List ℕ) (bytes : Bytes f) (words log answers : List ℕ) (n m : ℕ) (words' log' answers' : List ℕ) (e : Ends f words log answers (ran n m) words' log' answers')
     (w : ℕ) (inside : w < (header_in f).words) where
   abbrev h : Header
   h = header_in f

@@ -1,10 +1,9 @@
 -- What a power cut leaves of every run file that is not refused, cut after any of its schedule bytes: the refusals give what the theorem asks of the rows
 -- (R49 to R51), and that a byte can name every process (R44). The positions of the added bytes are under no limit.
 -- Assumes of the file that its numbers are bytes, which is what `run` is lent (`&[u8]`).
-use Rattle.std.specs.Prelude.{ℕ, ◌≡◌, List, take}
+use Rattle.std.specs.Prelude.{ℕ, ◌≡◌, List, take, Ok}
 use Rattle.runfile.specs.declared.Header.{Header}
 use Rattle.runfile.specs.declared.Room.{Room}
-use Rattle.runfile.specs.declared.Checked.TheVariants.{Accepted}
 use Rattle.runfile.specs.Layout.{schedule_in}
 use Rattle.runfile.specs.Operations.{words_of, table_of}
 use Rattle.runfile.specs.Refusals.{refusal_of}
@@ -16,7 +15,7 @@ use Rattle.power_cut.specs.Statement.{needed, in_turn, Safe}
 use Rattle.power_cut.specs.File.{OfFile, cut_at, end_in_turn}
 use Rattle.power_cut.proofs.PowerCut.{leaves}
 
-module _ (f : List ℕ) (bytes : Bytes f) (room : Room) (h : Header) (accepted : refusal_of f room ≡ Accepted h) where
+module _ (f : List ℕ) (bytes : Bytes f) (room : Room) (h : Header) (accepted : refusal_of f room ≡ Ok h) where
   sound : Lawful h f room
   sound = lawful f room h accepted
 

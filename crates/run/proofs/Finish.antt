@@ -9,7 +9,7 @@ use native.Mathlib.Omega.{arith}
 use lib.ListN.{length, get_or, take, drop, replicate, length-set, get_or-eq_default}
 use Rattle.runfile.specs.declared.Header.{Header}
 use Rattle.runfile.specs.declared.Row.{Row}
-use Rattle.runfile.specs.declared.Checked.TheVariants.{Accepted}
+use Rattle.std.specs.Prelude.{Ok}
 use Rattle.runfile.specs.Layout.{rows_start, stride_of, schedule_start, schedule_in}
 use Rattle.runfile.specs.Actions.{Action, step as steps, crash as crashes, wake as wakes, crash_all as crashes_all, none as idles, action, named}
 use Rattle.runfile.specs.Operations.{words_from, words_of, rows_from, table_of}
@@ -21,9 +21,8 @@ use Rattle.engine.specs.declared.Part.{Part}
 use Rattle.machine.specs.Records.{fresh, nobody}
 use Rattle.machine.specs.Laws.{Sane, sane_idle, fresh_at, closed_open, get_or_either}
 use Rattle.machine.specs.Machine.{State, Effect, quiet, swaps, logs, replies, words_after, turn, apply, applied, proc_at, act, act_in, step, step_in, after, after_in, begin}
-use Rattle.run.specs.declared.Outcome.TheVariants.{Ran}
 use Rattle.engine.specs.Part.{Holds, Runnable, Runs, state_lent}
-use Rattle.run.specs.Run.{end_of, room_of, EndsAs}
+use Rattle.run.specs.Run.{end_of, room_of, ran, EndsAs}
 use Rattle.run.specs.Parts.{part_all, table-part, lined-part, words_part}
 use Rattle.runfile.specs.OperationLaws.{length-words_from}
 
@@ -116,7 +115,7 @@ module _ (h : Header) (f words log answers : List ℕ) (l : Lawful h f (room_of 
 
   -- what stands in the buffers at the end: the words' part, and behind it what stood there
   pub finish : (m k : ℕ) (part words' log' answers' : List ℕ) → Holds (end_of h f) log answers m k part log' answers' → words' ≡ part ++ drop h.words words
-      → EndsAs (Accepted h) f words log answers (Ran m k) words' log' answers'
+      → EndsAs (Ok h) f words log answers (ran m k) words' log' answers'
   unfolding infront
   finish m k part words' log' answers' held whole =
       record {

@@ -1,33 +1,30 @@
 -- A file of version 1 and its transcription to version 2 come to the same outcome with the same buffers (`same_run`): they are checked alike, and
 -- the run takes the words, the rows and the schedule alone, which are the same. Where both are refused, the number is the same and the places go together.
-use Rattle.std.specs.Prelude.{ℕ, zero, suc, ◌+◌, ◌<◌, ◌≡◌, refl, List, [], ◌∷◌, length}
+use Rattle.std.specs.Prelude.{ℕ, zero, suc, ◌+◌, ◌<◌, ◌≡◌, refl, List, [], ◌∷◌, length, Result, Ok, Err}
 use Rattle.std.proofs.Common.{sym, ap, subst, ◌∙◌, arith}
 use Rattle.runfile.specs.declared.Header.{Header}
 use Rattle.runfile.specs.declared.Row.{Row}
 use Rattle.runfile.specs.declared.Room.{Room}
 use Rattle.runfile.specs.declared.Refusal.TheVariants as refusal
-use Rattle.runfile.specs.declared.Checked.{Checked}
-use Rattle.runfile.specs.declared.Checked.TheVariants as checked
+use Rattle.runfile.specs.declared.Refused.{Refused}
 use Rattle.runfile.specs.Format.{head_size, word_size, row_size, new_place}
 use Rattle.runfile.specs.Layout.{u16_at, u32_at, u64_at, widened, marked, header_in, number_at, row_at, schedule_in}
 use Rattle.runfile.specs.Ups.{up_from, idles}
 use Rattle.runfile.specs.Operations.{words_of, table_of}
-use Rattle.runfile.specs.Refusals.{bad_field, same_fields, bad_byte, first_bad_field, first_row, first_later_row, first_byte, refusal_of}
+use Rattle.runfile.specs.Refusals.{bad_field, same_fields, bad_byte, first_bad_field, first_row, first_later_row, first_byte, refused, refusal_of}
 use Rattle.runfile.specs.Table.{row_of, zero_byte_of}
 use Rattle.runfile.specs.Transcribed.{Transcribes, SamePlace, CheckedAlike, tables_alike}
 use Rattle.runfile.proofs.Transcribed.{checked_alike}
 use Rattle.rows.specs.Buffers.{flat, infront}
 use Rattle.machine.specs.Machine.{State, begin, after}
-use Rattle.run.specs.declared.Outcome.{Outcome}
-use Rattle.run.specs.declared.Outcome.TheVariants as outcome
-use Rattle.run.specs.Run.{end_of, room_of, outcome_of, words_left, log_left, answers_left, Ends}
+use Rattle.run.specs.Run.{Outcome, end_of, room_of, outcome_of, words_left, log_left, answers_left, Ends}
 
 -- the same numbers of rows; or the same refusal, at places that go together
 abbrev pub OutcomesAlike : Header → Header → Outcome → Outcome → Type 0
-OutcomesAlike a b (outcome.Ran log answers) (outcome.Ran more others) = (more ≡ log) × (others ≡ answers)
-OutcomesAlike a b (outcome.Ran log answers) (outcome.Refused why q) = ⊥
-OutcomesAlike a b (outcome.Refused why p) (outcome.Ran log answers) = ⊥
-OutcomesAlike a b (outcome.Refused why p) (outcome.Refused reason q) = (reason ≡ why) × SamePlace a b why p q
+OutcomesAlike a b (Ok x) (Ok y) = (y.log ≡ x.log) × (y.answers ≡ x.answers)
+OutcomesAlike a b (Ok x) (Err q) = ⊥
+OutcomesAlike a b (Err p) (Ok y) = ⊥
+OutcomesAlike a b (Err p) (Err q) = (q.why ≡ p.why) × SamePlace a b p.why p.place q.place
 
 -- the run ends in the same state: words, log and answers
 pub same_end : (f g : List ℕ) → Transcribes f g → end_of (header_in f) f ≡ end_of (header_in g) g
@@ -38,17 +35,17 @@ same_end f g t =
     ∙ ap (λ processes. after (table_of (header_in g) g) 0 (schedule_in (header_in g) g) (begin processes (words_of (header_in f) f))) t.processes
     ∙ ap (λ words. after (table_of (header_in g) g) 0 (schedule_in (header_in g) g) (begin (header_in g).processes words)) t.start_words
 
-pub record RunsAlike (f g words log answers : List ℕ) (c d : Checked) : Type 0 where
+pub record RunsAlike (f g words log answers : List ℕ) (c d : Result Header Refused) : Type 0 where
   pub outcomes : OutcomesAlike (header_in f) (header_in g) (outcome_of c f) (outcome_of d g)
   pub words_are : words_left d g words ≡ words_left c f words
   pub log_is : log_left d g log ≡ log_left c f log
   pub answers_are : answers_left d g answers ≡ answers_left c f answers
 
-runs_alike : (f g words log answers : List ℕ) → Transcribes f g → (c d : Checked) → CheckedAlike (header_in f) (header_in g) c d → RunsAlike f g words log answers c d
-runs_alike f g words log answers t (checked.Refused why p) (checked.Refused reason q) r = record { outcomes = r; words_are = refl; log_is = refl; answers_are = refl }
-runs_alike f g words log answers t (checked.Refused why p) (checked.Accepted y) r = absurd r
-runs_alike f g words log answers t (checked.Accepted x) (checked.Refused reason q) r = absurd r
-runs_alike f g words log answers t (checked.Accepted x) (checked.Accepted y) r =
+runs_alike : (f g words log answers : List ℕ) → Transcribes f g → (c d : Result Header Refused) → CheckedAlike (header_in f) (header_in g) c d → RunsAlike f g words log answers c d
+runs_alike f g words log answers t (Err p) (Err q) r = record { outcomes = r; words_are = refl; log_is = refl; answers_are = refl }
+runs_alike f g words log answers t (Err p) (Ok y) r = absurd r
+runs_alike f g words log answers t (Ok x) (Err q) r = absurd r
+runs_alike f g words log answers t (Ok x) (Ok y) r =
     let e : end_of y g ≡ end_of x f = ap (λ h. end_of h g) r.1 ∙ sym (same_end f g t) ∙ sym (ap (λ h. end_of h f) r.0) in
     record {
       outcomes = (ap (λ (s : State). length s.log) e, ap (λ (s : State). length s.answers) e);
@@ -140,10 +137,10 @@ transcribed new = record {
 abbrev room : Room
 room = record { words = 1; log = 60; answers = 60 }
 
-pub both_accepted : (refusal_of (narrow_file 9) room ≡ checked.Accepted (header_in (narrow_file 9))) × (refusal_of (wide_file 9) room ≡ checked.Accepted (header_in (wide_file 9)))
+pub both_accepted : (refusal_of (narrow_file 9) room ≡ Ok (header_in (narrow_file 9))) × (refusal_of (wide_file 9) room ≡ Ok (header_in (wide_file 9)))
 unfolding refusal_of head_size word_size row_size new_place header_in u16_at u32_at marked number_at row_at bad_field same_fields bad_byte first_bad_field first_row first_later_row first_byte idles up_from
 both_accepted = (refl, refl)
 
-pub both_refused : (refusal_of (narrow_file 7) room ≡ checked.Refused refusal.Same 23) × (refusal_of (wide_file 7) room ≡ checked.Refused refusal.Same 31)
+pub both_refused : (refusal_of (narrow_file 7) room ≡ refused refusal.Same 23) × (refusal_of (wide_file 7) room ≡ refused refusal.Same 31)
 unfolding refusal_of head_size word_size row_size new_place header_in u16_at u32_at marked number_at row_at bad_field same_fields bad_byte first_bad_field first_row first_later_row first_byte idles up_from
 both_refused = (refl, refl)

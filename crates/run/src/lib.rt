@@ -4,24 +4,16 @@
 mod load;
 
 ghost use Rattle.runfile.specs.Lawful.{Lawful};
-ghost use Rattle.runfile.specs.declared.Checked.TheVariants as checked;
 ghost use Rattle.std.specs.Prelude.{◌≡◌, length};
 ghost use Rattle.engine.specs.Part.{Holds};
 ghost use Rattle.run.specs.Run.{end_of, room_of, Ends, EndsAs};
 
 use engine::{Part, Standing};
 pub use load::load_words;
-use runfile::{Checked, Header, Refusal, Room};
-
-// Refused, with the refusal and its place; or run, with the two row counts (R185).
-#[derive(Clone, Copy)]
-pub enum Outcome {
-    Refused(Refusal, usize),
-    Ran { log: usize, answers: usize },
-}
+use runfile::{Header, Refused, Room};
 
 // How many rows stand in the log and in the answers.
-#[derive(Clone, Copy)]
+#[derive(Clone, Copy, Debug, PartialEq, Eq)]
 pub struct Counts {
     pub log: usize,
     pub answers: usize,
@@ -79,22 +71,23 @@ fn run_accepted(
     words: &mut [u64],
     log: &mut [u32],
     answers: &mut [u32],
-) -> Outcome
+) -> Counts
     requires { Lawful header file.now (room_of words.old log.old answers.old) }
-    ensures { EndsAs (checked.Accepted header) file.now words.old log.old answers.old
-        result words.new log.new answers.new }
+    ensures { EndsAs (Ok header) file.now words.old log.old answers.old
+        (Ok result) words.new log.new answers.new }
 {
     let count = runfile::index8(header.words);
-    let counts = run_words(file, header, &mut words[..count], log, answers);
-    Outcome::Ran {
-        log: counts.log,
-        answers: counts.answers,
-    }
+    run_words(file, header, &mut words[..count], log, answers)
 }
 
-// Runs a run file over the three lent buffers (R180), or refuses it and leaves them untouched (R34). Nothing is asked of
-// the caller.
-pub fn run(file: &[u8], words: &mut [u64], log: &mut [u32], answers: &mut [u32]) -> Outcome
+// Runs a run file over the three lent buffers (R180), or refuses it and leaves them untouched (R34). How many rows stand in
+// the log and in the answers is answered (R185). Nothing is asked of the caller.
+pub fn run(
+    file: &[u8],
+    words: &mut [u64],
+    log: &mut [u32],
+    answers: &mut [u32],
+) -> Result<Counts, Refused>
     ensures { Ends file.now words.old log.old answers.old result words.new log.new answers.new }
 {
     let room = Room {
@@ -102,8 +95,6 @@ pub fn run(file: &[u8], words: &mut [u64], log: &mut [u32], answers: &mut [u32])
         log: log.len(),
         answers: answers.len(),
     };
-    match runfile::check(file, room) {
-        Checked::Refused(why, place) => Outcome::Refused(why, place),
-        Checked::Accepted(header) => run_accepted(file, header, words, log, answers),
-    }
+    let header = runfile::check(file, room)?;
+    Ok(run_accepted(file, header, words, log, answers))
 }

@@ -4,10 +4,7 @@ use Rattle.runfile.proofs.Promises.{decides_lawful}
 use Rattle.run.proofs.run.Goals as goal
 
 pub run_accepted-requires : goal.run_accepted-requires
-run_accepted-requires c = decides_lawful _ _ _ c.check.ensures _ c.in-Accepted.is
+run_accepted-requires c = decides_lawful _ _ _ c.check.ensures _ c.in_ok-header.was
 
-pub returns-in-Refused : goal.returns-in-Refused
-returns-in-Refused c = rw (sym c.check.ensures.result ∙ c.in-Refused.is) (record { result = refl; words_are = refl; log_is = refl; answers_are = refl })
-
-pub returns-in-Accepted : goal.returns-in-Accepted
-returns-in-Accepted c = rw (sym c.check.ensures.result ∙ c.in-Accepted.is) c.run_accepted.ensures
+pub returns : goal.returns
+returns c = rw (sym c.check.ensures.result ∙ c.in_ok-header.was) c.run_accepted.ensures

@@ -15,8 +15,8 @@ part_size words count n e room = length-take-le n words (omega arith)
 pub slice_bounds-run_words-end-2 : goal.slice_bounds-run_words-end-2
 slice_bounds-run_words-end-2 c = sym (part_size _ _ _ c.index8-count.ensures.0 c.requires.words_room)
 
-pub run_words-counts-requires : goal.run_words-counts-requires
-run_words-counts-requires c =
+pub run_words-requires : goal.run_words-requires
+run_words-requires c =
     let a = c.args in
     let size = part_size _ _ _ c.index8-count.ensures.0 c.requires.words_room ∙ c.index8-count.ensures.0 in
     (size, part_lawful a.header a.file.now a.words.now a.log.now a.answers.now c.requires (take c.index8-count.result a.words.now) size)
@@ -24,5 +24,5 @@ run_words-counts-requires c =
 pub returns : goal.returns
 returns c =
     let a = c.args in
-    let new = c.run_words-counts.new.words in
-    finish a.header a.file.now a.words.now a.log.now a.answers.now c.requires _ _ new _ _ _ c.run_words-counts.ensures (ap (λ (n : ℕ). new ++ drop n a.words.now) c.index8-count.ensures.0)
+    let new = c.run_words.new.words in
+    finish a.header a.file.now a.words.now a.log.now a.answers.now c.requires _ _ new _ _ _ c.run_words.ensures (ap (λ (n : ℕ). new ++ drop n a.words.now) c.index8-count.ensures.0)
