@@ -17,7 +17,7 @@ pub use recovery::{by_bit, by_checkpoint, recovered_of, reply_of};
 pub use said::entry_of;
 
 // The stages of an operation and of recovery (R82).
-#[derive(Clone, Copy)]
+#[derive(Clone, Copy, Debug, PartialEq, Eq)]
 pub enum Stage {
     A1,
     A2,
@@ -35,7 +35,7 @@ pub enum Stage {
 
 // An answer: of a compare, of a read, and of an advance, which says what the value was before it (R85). Where none is
 // an answer too, an `Option` of it stands: the stored one, the one to store, and what is returned (none is fail).
-#[derive(Clone, Copy)]
+#[derive(Clone, Copy, Debug, PartialEq, Eq)]
 pub enum Answer {
     False,
     True,
@@ -46,7 +46,7 @@ pub enum Answer {
 // All that is volatile stands here, so a crash cannot forget to clear any of it (R83, R300). A row is announced by
 // three stores (R101 to R103): an idle process makes the first, and is then at N2 and at N3, where the others are to
 // be made.
-#[derive(Clone, Copy)]
+#[derive(Clone, Copy, Debug, PartialEq, Eq)]
 pub enum Status {
     Down,
     Idle,
@@ -62,14 +62,14 @@ pub enum Status {
 }
 
 // What A2 keeps in one store: the own flip bit turned round and, of an advance, the value that it read (R84, R112).
-#[derive(Clone, Copy)]
+#[derive(Clone, Copy, Debug, PartialEq, Eq)]
 pub struct Kept {
     pub bit: bool,
     pub value: u32,
 }
 
 // A process: its status, and what is kept through a crash (R84).
-#[derive(Clone, Copy)]
+#[derive(Clone, Copy, Debug, PartialEq, Eq)]
 pub struct Process {
     pub status: Status,
     // The open row, by its number in the file.
@@ -81,7 +81,7 @@ pub struct Process {
 }
 
 // Work in hand, as A5 takes it: the process, its open row, and what it has in the midst of it (R82).
-#[derive(Clone, Copy)]
+#[derive(Clone, Copy, Debug, PartialEq, Eq)]
 pub struct Work {
     pub process: u8,
     pub row: u16,

@@ -13,7 +13,7 @@ ghost use Rattle.rows.specs.Promises.{Added};
 pub use log::{first_swap_after, insert_row, place_of};
 
 // A row of the log or of the answers. Any five numbers make one: a log that is lent may hold anything.
-#[derive(Clone, Copy)]
+#[derive(Clone, Copy, Debug, PartialEq, Eq)]
 pub struct Entry {
     pub position: u32,
     pub process: u32,
@@ -24,7 +24,7 @@ pub struct Entry {
 
 // What a lost swap looks for in the log: a successful swap on its word after this position, that of its A1 (R168). Where there
 // is none, `none` is taken for the swap's position (R169).
-#[derive(Clone, Copy)]
+#[derive(Clone, Copy, Debug, PartialEq, Eq)]
 pub struct Sought {
     pub word: u8,
     pub after: u32,
