@@ -6,7 +6,6 @@ use mathlib.Core.List.{List}
 use Prim.Native.Nat.{ℕ, ◌+◌, ◌*◌, ◌≤◌}
 use lib.Dec.{eqb}
 use lib.ListN.{length}
-use borrow.Author.Tests.{eq-eqb, ne_eqb}
 use Rattle.runfile.specs.declared.Row.{Row}
 use Rattle.word.specs.Word.{value}
 use Rattle.rows.specs.declared.Entry.{Entry}
@@ -22,18 +21,6 @@ use Rattle.machine.specs.Records.{nobody}
 use Rattle.machine.specs.Steps.{entry, storing, storing_in}
 use Rattle.machine.specs.Machine.{effect_of, log_after}
 use Rattle.machine.specs.Promises.{false_at, entered, Enters}
-
--- the position of a false: that of the swap that beat it, or that of its A1
-module _ (rows : List Row) (row found : Row) (log : List Entry) (w : Work) (v : ℕ) (is : found ≡ row) (read : v ≡ value w.seen) where
-  pub lost_at_lem : (q : ℕ) → v ≡ found.old → q ≡ first_swap rows found.word w.read_at w.tried_at log → q ≡ false_at rows row log w
-  unfolding false_at
-  lost_at_lem q old e =
-      (e ∙ ap (λ (r : Row). first_swap rows r.word w.read_at w.tried_at log) is)
-      ∙ sym (rw (eq-eqb (value w.seen) row.old (sym read ∙ old ∙ ap (λ (r : Row). r.old) is)))
-
-  pub other_at : (v ≡ found.old → ⊥) → w.read_at ≡ false_at rows row log w
-  unfolding false_at
-  other_at n = rw (ne_eqb (value w.seen) row.old (λ e. n (read ∙ e ∙ ap (λ (r : Row). r.old) (sym is))))
 
 module _ (rows : List Row) (row : Row) (log : List ℕ) (m : ℕ) (w : Work) where
   -- what the log holds afterwards, by the answer
@@ -74,14 +61,13 @@ module _ (rows : List Row) (row : Row) (log : List ℕ) (m : ℕ) (w : Work) whe
   unfolding after_as storing_in
   enter_was room v e = stays room (is_as (Some (Was v)) e)
 
-  pub enter_value : (said : Answer) → w.answer ≡ Some said → (v : ℕ) → said ≡ Value v → (e : Entry) (log' : List ℕ) → e ≡ entry w.read_at w.process w.row (Some said)
+  pub enter_value : (v : ℕ) → w.answer ≡ Some (Value v) → (q : ℕ) (e : Entry) (log' : List ℕ) → q ≡ w.read_at → e ≡ entry q w.process w.row w.answer
       → log' ≡ infront (flat (insert e (rows_of m log))) log → Enters rows row log m w (m + 1) log'
   unfolding after_as storing_in
-  enter_value said a v is e log' en put =
-      grows e log' (is_as (Some (Value v)) (a ∙ ap Some is) ∙ ap (λ e. insert e (rows_of m log)) (sym (en ∙ ap (λ s. entry w.read_at w.process w.row (Some s)) is))) put
+  enter_value v a q e log' at en put =
+      grows e log' (is_as (Some (Value v)) a ∙ ap (λ e. insert e (rows_of m log)) (sym (en ∙ ap₂ (λ q s. entry q w.process w.row s) at a))) put
 
-  pub enter_false : (said : Answer) → w.answer ≡ Some said → said ≡ False → (q : ℕ) (e : Entry) (log' : List ℕ) → q ≡ false_at rows row (rows_of m log) w → e ≡ entry q w.process w.row (Some said)
+  pub enter_false : w.answer ≡ Some False → (q : ℕ) (e : Entry) (log' : List ℕ) → q ≡ false_at rows row (rows_of m log) w → e ≡ entry q w.process w.row w.answer
       → log' ≡ infront (flat (insert e (rows_of m log))) log → Enters rows row log m w (m + 1) log'
-  enter_false said a is q e log' at en put =
-      grows e log'
-      (is_as (Some False) (a ∙ ap Some is) ∙ false_as ∙ ap (λ e. insert e (rows_of m log)) (sym (en ∙ ap₂ (λ q s. entry q w.process w.row (Some s)) at is))) put
+  enter_false a q e log' at en put =
+      grows e log' (is_as (Some False) a ∙ false_as ∙ ap (λ e. insert e (rows_of m log)) (sym (en ∙ ap₂ (λ q s. entry q w.process w.row s) at a))) put

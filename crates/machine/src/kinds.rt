@@ -9,8 +9,7 @@ pub fn keep(kind: Kind, before: Kept, bit: bool, value: u32) -> Kept
     ensures { KeptNow kind before bit value result }
 {
     match kind {
-        Kind::Read => Kept { bit, ..before },
-        Kind::Compare => Kept { bit, ..before },
+        Kind::Read | Kind::Compare => Kept { bit, ..before },
         Kind::Advance => Kept { bit, value },
     }
 }
@@ -20,8 +19,7 @@ pub fn put_in(kind: Kind, new: u32, value: u32) -> u32
     ensures { PutIn kind new value result }
 {
     match kind {
-        Kind::Read => new,
-        Kind::Compare => new,
+        Kind::Read | Kind::Compare => new,
         Kind::Advance => word::sum_of(value, new),
     }
 }
@@ -31,8 +29,7 @@ pub fn swap_says(kind: Kind, value: u32) -> Answer
     ensures { SwapSaid kind value result }
 {
     match kind {
-        Kind::Read => Answer::True,
-        Kind::Compare => Answer::True,
+        Kind::Read | Kind::Compare => Answer::True,
         Kind::Advance => Answer::Was(value),
     }
 }
@@ -41,34 +38,20 @@ pub fn swap_says(kind: Kind, value: u32) -> Answer
 pub fn after_loss(kind: Kind, seen: u64, read_at: u16, position: u16) -> Status
     ensures { AfterLoss kind seen read_at position result }
 {
-    let no = Some(Answer::False);
     match kind {
-        Kind::Read => {
-            Status::Busy {
-                stage: Stage::A5,
-                word: seen,
-                read_at,
-                tried_at: position,
-                answer: no,
-            }
-        }
-        Kind::Compare => {
-            Status::Busy {
-                stage: Stage::A5,
-                word: seen,
-                read_at,
-                tried_at: position,
-                answer: no,
-            }
-        }
-        Kind::Advance => {
-            Status::Busy {
-                stage: Stage::A1,
-                word: 0,
-                read_at: 0,
-                tried_at: 0,
-                answer: None,
-            }
-        }
+        Kind::Read | Kind::Compare => Status::Busy {
+            stage: Stage::A5,
+            word: seen,
+            read_at,
+            tried_at: position,
+            answer: Some(Answer::False),
+        },
+        Kind::Advance => Status::Busy {
+            stage: Stage::A1,
+            word: 0,
+            read_at: 0,
+            tried_at: 0,
+            answer: None,
+        },
     }
 }

@@ -31,62 +31,42 @@ pub fn store_word(table: &[u8], stride: usize, k: usize, words: &mut [u64], new:
 pub fn after_read(row: Row, word: u64, position: u16) -> Status
     ensures { AfterRead row word position result }
 {
-    let kind = runfile::kind_of(row);
-    match kind {
-        Kind::Read => {
-            Status::Busy {
-                stage: Stage::A5,
-                word,
-                read_at: position,
-                tried_at: 0,
-                answer: Some(Answer::Value(word::value_of(word))),
-            }
-        }
-        Kind::Compare => {
-            if word::value_of(word) == row.old {
-                return Status::Busy {
-                    stage: Stage::A2,
-                    word,
-                    read_at: position,
-                    tried_at: 0,
-                    answer: None,
-                };
-            }
-            Status::Busy {
-                stage: Stage::A5,
-                word,
-                read_at: position,
-                tried_at: 0,
-                answer: Some(Answer::False),
-            }
-        }
-        Kind::Advance => {
-            Status::Busy {
-                stage: Stage::A2,
-                word,
-                read_at: position,
-                tried_at: 0,
-                answer: None,
-            }
-        }
+    let done = |answer| Status::Busy {
+        stage: Stage::A5,
+        word,
+        read_at: position,
+        tried_at: 0,
+        answer: Some(answer),
+    };
+    let value = word::value_of(word);
+    match runfile::kind_of(row) {
+        Kind::Read => done(Answer::Value(value)),
+        Kind::Compare if value != row.old => done(Answer::False),
+        Kind::Compare | Kind::Advance => Status::Busy {
+            stage: Stage::A2,
+            word,
+            read_at: position,
+            tried_at: 0,
+            answer: None,
+        },
     }
 }
 
 // The position with which a false enters the log: a lost swap, which had read old, takes that of the swap that beat it
 // (R167, R168); any other that of its A1 (R166).
+#[tactic(auto, unfolding(crate::specs::Promises::false_at))]
 fn false_at(table: &[u8], stride: usize, n: usize, log: &[u32], log_rows: usize, work: Work) -> u32
     requires { Looked stride table.now n work.row log.now log_rows }
     ensures { FalseAt stride table.now n log.now log_rows work result }
 {
     let k = runfile::index16(work.row);
     let row = runfile::row_at(table, stride, k);
-    let read_at = work.read_at as u32;
-    let tried_at = work.tried_at as u32;
+    let read_at = u32::from(work.read_at);
     if word::value_of(work.seen) == row.old {
         let sought = Sought {
             word: row.word,
             after: read_at,
-            none: tried_at,
+            none: u32::from(work.tried_at),
         };
         return rows::first_swap_after(table, stride, n, log, log_rows, sought);
     }
@@ -106,21 +86,20 @@ pub fn enter(
     requires { Enterable stride table.now n work.row log.old log_rows }
     ensures { Entered stride table.now n log.old log_rows work result log.new }
 {
-    let answer = work.answer;
-    let Some(said) = answer else {
+    let Some(said) = work.answer else {
         return log_rows;
     };
     match said {
-        Answer::True => log_rows,
-        Answer::Was(_) => log_rows,
+        Answer::True | Answer::Was(_) => log_rows,
         Answer::Value(_) => {
-            let read = entry_of(work.read_at as u32, work.process, work.row, answer);
+            let at = u32::from(work.read_at);
+            let read = entry_of(at, work.process, work.row, work.answer);
             rows::insert_row(log, log_rows, read);
             log_rows + 1
         }
         Answer::False => {
             let at = false_at(table, stride, n, log, log_rows, work);
-            let lost = entry_of(at, work.process, work.row, answer);
+            let lost = entry_of(at, work.process, work.row, work.answer);
             rows::insert_row(log, log_rows, lost);
             log_rows + 1
         }

@@ -8,9 +8,10 @@ use super::{Answer, Stage};
 pub fn recovered_of(stored: Option<Answer>) -> Stage
     ensures { RecoveredBy stored result }
 {
-    match stored {
-        None => Stage::V2,
-        Some(_) => Stage::V5,
+    if stored.is_some() {
+        Stage::V5
+    } else {
+        Stage::V2
     }
 }
 
@@ -26,10 +27,10 @@ pub fn by_bit(me: u8, now: u64, kept: bool) -> Stage
     requires { me < 16 }
     ensures { ByBit me now kept result }
 {
-    if word::bit_of(me as u32, now) {
-        if kept { Stage::V4 } else { Stage::V6 }
+    if word::bit_of(u32::from(me), now) == kept {
+        Stage::V4
     } else {
-        if kept { Stage::V6 } else { Stage::V4 }
+        Stage::V6
     }
 }
 

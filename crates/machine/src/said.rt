@@ -11,14 +11,12 @@ use rows::Entry;
 fn verdict_of(said: Option<Answer>) -> u32
     ensures { result ≡ (spoken said).verdict }
 {
-    let Some(answer) = said else {
-        return 2;
-    };
-    match answer {
-        Answer::False => 0,
-        Answer::True => 1,
-        Answer::Value(_) => 3,
-        Answer::Was(_) => 4,
+    match said {
+        None => 2,
+        Some(Answer::False) => 0,
+        Some(Answer::True) => 1,
+        Some(Answer::Value(_)) => 3,
+        Some(Answer::Was(_)) => 4,
     }
 }
 
@@ -27,14 +25,9 @@ fn verdict_of(said: Option<Answer>) -> u32
 fn value_said(said: Option<Answer>) -> u32
     ensures { result ≡ (spoken said).value }
 {
-    let Some(answer) = said else {
-        return 0;
-    };
-    match answer {
-        Answer::False => 0,
-        Answer::True => 0,
-        Answer::Value(value) => value,
-        Answer::Was(value) => value,
+    match said {
+        None | Some(Answer::False | Answer::True) => 0,
+        Some(Answer::Value(value) | Answer::Was(value)) => value,
     }
 }
 
@@ -44,8 +37,8 @@ pub fn entry_of(position: u32, process: u8, row: u16, said: Option<Answer>) -> E
 {
     Entry {
         position,
-        process: process as u32,
-        row: row as u32,
+        process: u32::from(process),
+        row: u32::from(row),
         verdict: verdict_of(said),
         value: value_said(said),
     }
