@@ -1,6 +1,6 @@
 -- The contracts of the exported functions, each an equation for the result or for each number that is left; and for each a law that it leaves no
 -- second outcome. A contract of one equation is that equation under a name, so that a caller rewrites with it as it stands.
-use Rattle.std.specs.Prelude.{ℕ, ◌+◌, ◌*◌, ◌≤◌, ◌≡◌, Bool, cond, List, eqb, ltb, length, get_or, set, Option, None}
+use Rattle.std.specs.Prelude.{ℕ, ◌+◌, ◌*◌, ◌≤◌, ◌≡◌, Bool, cond, List, eqb, length, get_or, set, Option, None}
 use Rattle.std.proofs.Common.{sym, ◌∙◌}
 use Rattle.runfile.specs.declared.Row.{Row}
 use Rattle.runfile.specs.declared.Kind.{Kind}
@@ -48,14 +48,6 @@ Started process first r = r ≡ started (first + process.begun) process
 -- `crash_first(processes, count)`, for every count: past the last record there is none to bring down
 abbrev pub CrashedFirst : (processes : List Process) (count : ℕ) (r : List Process) → Type 0
 CrashedFirst processes count r = r ≡ down_to count processes
-
--- `at_most_sixteen(count)`: the smaller of the two; that it is within the records is there for the caller's arithmetic
-unfoldable pub smaller : ℕ → ℕ → ℕ
-smaller most count = cond (ltb count most) count most
-
-pub record AtMostSixteen (count r : ℕ) : Type 0 where
-  pub result : r ≡ smaller 16 count
-  pub within : r ≤ 16
 
 -- `after_read(row, word, position)`
 abbrev pub AfterRead : (row : Row) (word position : ℕ) (r : Status) → Type 0

@@ -12,11 +12,11 @@ mod said;
 
 pub use kinds::{after_loss, keep, put_in, swap_says};
 pub use operation::{after_read, enter, store_word, word_now};
-pub use records::{busy, crash_first, fresh, open_row, stage_number, start};
+pub use records::{busy, crash_first};
 pub use recovery::{by_bit, by_checkpoint, recovered_of, reply_of};
 pub use said::entry_of;
 
-// The stages of an operation and of recovery (R82).
+// The stages of an operation and of recovery (R82), numbered in this order from 0 on (R301).
 #[derive(Clone, Copy, Debug, PartialEq, Eq)]
 pub enum Stage {
     A1,

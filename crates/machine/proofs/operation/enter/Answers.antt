@@ -11,8 +11,8 @@ returns-in_default c = enter_none _ _ _ _ _ c.requires.looked.rows c.in_default.
 pub returns-in-True : goal.returns-in-True
 returns-in-True c =
     elim c.in-True.is [
-      inl e ↦ enter_true _ _ _ _ _ c.requires.looked.rows (c.in-Some.is ∙ ap Some e)
-    | inr p ↦ enter_was _ _ _ _ _ c.requires.looked.rows p.0 (c.in-Some.is ∙ ap Some p.1)
+      | inl e ↦ enter_true _ _ _ _ _ c.requires.looked.rows (c.in-Some.is ∙ ap Some e)
+      | inr p ↦ enter_was _ _ _ _ _ c.requires.looked.rows p.0 (c.in-Some.is ∙ ap Some p.1)
     ]
 
 pub returns-in-Value : goal.returns-in-Value
