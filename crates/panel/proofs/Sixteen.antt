@@ -4,6 +4,7 @@ use Prim.Native.Nat.{ℕ, zero, suc, ◌+◌, ◌≤◌, ◌<◌, min}
 use mathlib.Core.Path.{◌≡◌, refl, ◌∙◌, ap}
 use mathlib.Core.Bool.{Bool, true, false, not, cond}
 use mathlib.Core.List.{List, [], ◌∷◌, ◌++◌}
+use Rattle.std.specs.Prelude.{Result, Ok, Err}
 use native.Mathlib.Omega.{arith}
 use lib.Dec.{leb, ltb}
 use lib.ListN.{length, take, drop, get_or, take-append-drop, get_or-append}
@@ -12,8 +13,7 @@ use borrow.Author.Tests.{ltb-true, ltb-false, leb-false, lt-ltb, le-ltb}
 use Rattle.runfile.specs.declared.Header.{Header}
 use Rattle.runfile.specs.declared.Room.{Room}
 use Rattle.runfile.specs.declared.Row.{Row}
-use Rattle.runfile.specs.declared.Checked.{Checked}
-use Rattle.runfile.specs.declared.Checked.TheVariants as checked
+use Rattle.runfile.specs.declared.Refused.{Refused as FileRefused}
 use Rattle.runfile.specs.declared.Refusal.TheVariants.{Idle, WordsRoom}
 use Rattle.runfile.specs.Actions.{Action, step as steps, crash as crashes, wake as wakes, crash_all as crashes_all, none as idles, action, named}
 use Rattle.runfile.specs.Ups.{idle_by}
@@ -27,15 +27,12 @@ use Rattle.machine.specs.Machine.{step}
 use Rattle.run.specs.Run.{room_of}
 use Rattle.panel.specs.declared.Stroke.{Stroke}
 use Rattle.panel.specs.declared.Table.{Table}
-use Rattle.panel.specs.declared.Verdict.{Verdict}
-use Rattle.panel.specs.declared.Verdict.TheVariants.{Fine, Not}
 use Rattle.panel.specs.declared.Why.TheVariants.{Run, Record, Key}
-use Rattle.panel.specs.declared.Outcome.TheVariants.{Went, Refused}
 use Rattle.panel.proofs.Fits.{not_fine, list_room}
 use Rattle.panel.specs.Longer.{grows}
 use Rattle.panel.specs.Laid.{blank, laid}
 use Rattle.panel.specs.Possible.{any_impossible}
-use Rattle.panel.specs.Press.{Lent, lent, idle_key, sound, and_then, judged, judged_as, verdict_of, state_of, stepped, Pressed, pressed_as, pressed}
+use Rattle.panel.specs.Press.{Verdict, done, refuses, of_file, Lent, lent, idle_key, sound, and_then, judged, judged_as, verdict_of, state_of, stepped, Pressed, pressed_as, pressed}
 use Rattle.panel.specs.Key.{keyed}
 
 -- with the first n of the table laid back into the list
@@ -66,7 +63,7 @@ module _ (records over : List Process) (n : ℕ) (fits : n ≤ length records) w
   unfolding laid
   laid-front front m e h = rw (← e) (front_back records (drop n over) front n fits (rw e h))
 
-  laid_same : laid n (laid n records over) records ≡ records
+  pub laid_same : laid n (laid n records over) records ≡ records
   unfolding laid
   laid_same = laid-front [] 0 refl (omega arith)
 
@@ -124,9 +121,9 @@ module _ (f : List ℕ) (records : List Process) (words log answers : List ℕ) 
   sound_alike : (h : Header) → h.processes ≤ n → sound h f (laid n records blank) k ≡ sound h f records k
   sound_alike h few =
       rw (any_laid records blank n held (table_of h f) 0 h.processes (omega arith))
-      (ap (λ v. cond (ltb 1023 k.position) (Not Record 0) (cond (any_impossible (table_of h f) records 0 h.processes) (Not Record 0) v)) (go (bad_byte h.processes k.byte) refl))
+      (ap (λ v. cond (ltb 1023 k.position) (refuses Record 0) (cond (any_impossible (table_of h f) records 0 h.processes) (refuses Record 0) v)) (go (bad_byte h.processes k.byte) refl))
     where
-      go : (c : Bool) → bad_byte h.processes k.byte ≡ c → ◌≡◌ {A = Verdict} (cond c (Not Key 0) (cond (idle_key (laid n records blank) k.byte) (Not (Run Idle) 0) (Fine h))) (cond c (Not Key 0) (cond (idle_key records k.byte) (Not (Run Idle) 0) (Fine h)))
+      go : (c : Bool) → bad_byte h.processes k.byte ≡ c → ◌≡◌ {A = Verdict} (cond c (refuses Key 0) (cond (idle_key (laid n records blank) k.byte) (refuses (Run Idle) 0) (Ok h))) (cond c (refuses Key 0) (cond (idle_key records k.byte) (refuses (Run Idle) 0) (Ok h)))
       go true e = refl
       go false e = rw (idle_alike h.processes few e) refl
 
@@ -136,8 +133,8 @@ module _ (f : List ℕ) (records : List Process) (words log answers : List ℕ) 
   verdict_alike h few = rw (← (short_alike (length records) h.processes few)) (go (ltb (length words) h.words) (ltb n h.processes) refl _)
     where
       go : (a c : Bool) → ltb n h.processes ≡ c → (rest : Verdict)
-          → and_then (cond a (Not (Run WordsRoom) 0) (cond c (Not (Run WordsRoom) 0) rest)) (sound h f (laid n records blank) k)
-          ≡ and_then (cond a (Not (Run WordsRoom) 0) (cond c (Not (Run WordsRoom) 0) rest)) (sound h f records k)
+          → and_then (cond a (refuses (Run WordsRoom) 0) (cond c (refuses (Run WordsRoom) 0) rest)) (sound h f (laid n records blank) k)
+          ≡ and_then (cond a (refuses (Run WordsRoom) 0) (cond c (refuses (Run WordsRoom) 0) rest)) (sound h f records k)
       go true c q rest = refl
       go false true q rest = refl
       go false false q rest = ap (and_then rest) (sound_alike h (ltb-false n h.processes q))
@@ -154,22 +151,22 @@ module _ (f : List ℕ) (records : List Process) (words log answers : List ℕ) 
   all_there h few = (grows (table_of h f) k.position k.byte (state_of h.processes lends k)).processes ∙ length-take-le h.processes records (omega arith)
 
   -- what is pressed over the table and laid back is what is pressed over the list
-  alike : (v : Verdict) → ((h : Header) → v ≡ Fine h → h.processes ≤ n) → given_back n records (pressed_as v f in_table k) ≡ pressed_as v f lends k
-  alike (Not why place) fits = ap (λ l. record { outcome = Refused why place; processes = l; words = words; log = log; answers = answers }) (laid_same records blank n held)
-  alike (Fine h) fits =
+  alike : (v : Verdict) → ((h : Header) → v ≡ Ok h → h.processes ≤ n) → given_back n records (pressed_as v f in_table k) ≡ pressed_as v f lends k
+  alike (Err r) fits = ap (λ l. record { outcome = Err r; processes = l; words = words; log = log; answers = answers }) (laid_same records blank n held)
+  alike (Ok h) fits =
       let P = h.processes in
       let few : P ≤ n = fits h refl in
       let same : stepped h f in_table k ≡ stepped h f lends k = state_alike h few in
       let all : length (stepped h f lends k).processes ≡ P = all_there h few in
       ap (λ s. record {
-        outcome = Went (length s.log) (length s.answers);
+        outcome = done (length s.log) (length s.answers);
         processes = laid n (s.processes ++ drop P (laid n records blank)) records;
         words = s.words;
         log = infront (flat s.log) log;
         answers = infront (flat s.answers) answers;
       }) same
       ∙ ap (λ l. record {
-        outcome = Went (length (stepped h f lends k).log) (length (stepped h f lends k).answers);
+        outcome = done (length (stepped h f lends k).log) (length (stepped h f lends k).answers);
         processes = l;
         words = (stepped h f lends k).words;
         log = infront (flat (stepped h f lends k).log) log;
@@ -181,7 +178,7 @@ module _ (f : List ℕ) (records : List Process) (words log answers : List ℕ) 
   unfolding keyed pressed verdict_of
   keyed_is = go (file_refusal f) refl
     where
-      go : (c : Checked) → file_refusal f ≡ c → given_back n records (pressed_as (judged_as c f table room k) f in_table k) ≡ pressed_as (judged_as c f whole room k) f lends k
-      go (checked.Refused why place) q = alike (Not (Run why) place) (λ h e. absurd (not_fine e))
-      go (checked.Accepted h) q =
+      go : (c : Result Header FileRefused) → file_refusal f ≡ c → given_back n records (pressed_as (judged_as c f table room k) f in_table k) ≡ pressed_as (judged_as c f whole room k) f lends k
+      go (Err r) q = alike (Err (of_file r)) (λ h e. absurd (not_fine e))
+      go (Ok h) q =
           alike (judged h f table room k) (λ g e. list_room h f table room k g e) ∙ ap (λ v. pressed_as v f lends k) (verdict_alike h (lawful_file f h q).head.processes)

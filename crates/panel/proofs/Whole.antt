@@ -2,6 +2,7 @@
 use Prim.Native.Nat.{ℕ, zero, suc, ◌-◌, ◌<◌}
 use mathlib.Core.Path.{◌≡◌, refl, sym, ap₂, subst}
 use mathlib.Core.List.{List, [], ◌∷◌}
+use Rattle.std.specs.Prelude.{Ok, Err}
 use native.Mathlib.Omega.{arith}
 use lib.ListN.{length, get_or, take, drop}
 use Rattle.runfile.specs.declared.Header.{Header}
@@ -19,11 +20,8 @@ use Rattle.run.specs.Parts.{part_all, table-part, lined-part, words_part}
 use Rattle.run.specs.Run.{room_of}
 use Rattle.panel.specs.declared.Stroke.{Stroke}
 use Rattle.panel.specs.declared.Table.{Table}
-use Rattle.panel.specs.declared.Outcome.{Outcome}
-use Rattle.panel.specs.declared.Outcome.TheVariants.{Went, Refused}
-use Rattle.panel.specs.declared.Verdict.TheVariants.{Fine, Not}
-use Rattle.panel.specs.declared.Why.{Why}
-use Rattle.panel.specs.Press.{Lent, lent, verdict_of, Fit, Leaves, state_of, stepped, carried, pressed}
+use Rattle.panel.specs.declared.Refused.{Refused}
+use Rattle.panel.specs.Press.{Outcome, done, Lent, lent, verdict_of, Fit, Leaves, state_of, stepped, carried, pressed}
 use Rattle.panel.specs.Fits.{each_possible, sane_of}
 
 module _ (h : Header) (f : List ℕ) (l : Lent) (k : Stroke) (ft : Fit h f l.processes (room_of l.words l.log l.answers) k) where
@@ -64,12 +62,12 @@ module _ (h : Header) (f : List ℕ) (l : Lent) (k : Stroke) (ft : Fit h f l.pro
 
     -- and what it leaves is what the key comes to
     pub went : (r : Standing) (words log answers : List ℕ) → Runs (part_of stride n P) (take (length f - rows_at) (drop rows_at f)) (k.byte ∷ []) l.words l.log l.answers r words log answers
-        → Leaves (carried h f l k) (Went r.log r.answers) r.processes words log answers
+        → Leaves (carried h f l k) (done r.log r.answers) r.processes words log answers
     unfolding stepped state_of after_in state_lent
     went r words log answers left =
         let m = rw (part_all f rows_at, z, e, q, here, table-part h f) at left in
         record {
-          result = ap₂ Went m.holds.log_count m.holds.answers_count;
+          result = ap₂ done m.holds.log_count m.holds.answers_count;
           processes_are = m.processes_are;
           words_are = m.holds.words_are;
           log_is = m.holds.log_is;
@@ -81,11 +79,11 @@ module _ (f : List ℕ) (t : Table) (words log answers : List ℕ) (k : Stroke) 
   abbrev l : Lent
   l = lent t.processes words log answers
 
-  pub was_refused : (why : Why) (at : ℕ) → verdict_of f t (room_of words log answers) k ≡ Not why at → Leaves (pressed f t words log answers k) (Refused why at) t.processes words log answers
+  pub was_refused : (r : Refused) → verdict_of f t (room_of words log answers) k ≡ Err r → Leaves (pressed f t words log answers k) (Err r) t.processes words log answers
   unfolding pressed
-  was_refused why at v = rw v (record { result = refl; processes_are = refl; words_are = refl; log_is = refl; answers_are = refl })
+  was_refused r v = rw v (record { result = refl; processes_are = refl; words_are = refl; log_is = refl; answers_are = refl })
 
-  pub was_fine : (h : Header) → verdict_of f t (room_of words log answers) k ≡ Fine h → (r : Outcome) (ps : List Process) (words' log' answers' : List ℕ)
+  pub was_fine : (h : Header) → verdict_of f t (room_of words log answers) k ≡ Ok h → (r : Outcome) (ps : List Process) (words' log' answers' : List ℕ)
       → Leaves (carried h f l k) r ps words' log' answers' → Leaves (pressed f t words log answers k) r ps words' log' answers'
   unfolding pressed
   was_fine h v r ps words' log' answers' c = rw v c

@@ -1,6 +1,6 @@
 -- What a key that is carried out leaves alone (R204, R206), by what a byte leaves alone in the machine; and that a crash or a wake leaves the record
 -- named not as it was (R226). For every file, every list of records and all buffers, a refused key among them (R222): `frame` in proofs/Frame.
-use Rattle.std.specs.Prelude.{ℕ, ◌+◌, ◌*◌, ◌-◌, ◌≤◌, ◌<◌, ◌≡◌, true, false, List, ◌++◌, ◌≢◌, leb, ltb}
+use Rattle.std.specs.Prelude.{ℕ, ◌+◌, ◌*◌, ◌-◌, ◌≤◌, ◌<◌, ◌≡◌, true, false, List, ◌++◌, ◌≢◌, leb, ltb, Ok}
 use Rattle.std.proofs.Math.Path.{refl, sym, ap, ap₂, subst}
 use Rattle.std.proofs.Common.{◌∙◌, take-append-drop, length-drop, drop_at, get_or-drop, get_or-set_other}
 use Rattle.std.proofs.Math.Bool.{Bool}
@@ -10,7 +10,6 @@ use Rattle.std.proofs.Math.Seq.{get_or-take, length-take-le}
 use borrow.Author.Tests.{ltb-true, ltb-false, leb-false, eq-eqb, not-false}
 use Rattle.runfile.specs.declared.Header.{Header}
 use Rattle.runfile.specs.declared.Row.{Row}
-use Rattle.runfile.specs.declared.Checked.TheVariants as checked
 use Rattle.runfile.specs.Actions.{Action, step as steps, crash as crashes, wake as wakes, crash_all as crashes_all, none as idles, action, named}
 use Rattle.runfile.specs.Ups.{up_as, idle_by}
 use Rattle.runfile.specs.Operations.{table_of, row_numbered, first, count}
@@ -30,10 +29,9 @@ use Rattle.machine.specs.Awake.{awake-down, Strikes}
 use Rattle.machine.proofs.Awake.{awake-byte}
 use Rattle.run.specs.Run.{room_of}
 use Rattle.panel.specs.declared.Stroke.{Stroke}
-use Rattle.panel.specs.declared.Outcome.TheVariants.{Went, Refused}
 use Rattle.panel.specs.declared.Why.{Why}
 use Rattle.panel.specs.Longer.{grows}
-use Rattle.panel.specs.Press.{Lent, lent, state_of, stepped, Pressed, carried, Fit}
+use Rattle.panel.specs.Press.{done, refuses, Lent, lent, state_of, stepped, Pressed, carried, Fit}
 
 -- a word that the row is not on
 word_stays : (rows : List Row) (log : List Entry) (p t k w : ℕ) (u : Turn) (words : List ℕ) (j : ℕ) → j ≢ w → get_or (words_after (effect_of rows log p t k w u) words) j 0 ≡ get_or words j 0
@@ -67,7 +65,7 @@ pub record Frame (h : Header) (f : List ℕ) (l : Lent) (k : Stroke) (p : Presse
   pub answers_before : (i : ℕ) → i < k.answers * 5 → get_or p.answers i 0 ≡ get_or l.answers i 0
   pub all_answers : length p.answers ≡ length l.answers
   -- a crash or a wake: only records change (R134)
-  pub only_steps : (action k.byte ≡ steps → ⊥) → (p.outcome ≡ Went k.log k.answers) × (p.words ≡ l.words) × (p.log ≡ l.log) × (p.answers ≡ l.answers)
+  pub only_steps : (action k.byte ≡ steps → ⊥) → (p.outcome ≡ done k.log k.answers) × (p.words ≡ l.words) × (p.log ≡ l.log) × (p.answers ≡ l.answers)
   -- and it changes the record of the process named: one that was awake is down, one that was down is awake (R226)
   pub struck : Strikes k.byte (get_or l.processes (named k.byte) nobody) (get_or p.processes (named k.byte) nobody)
 
@@ -166,13 +164,13 @@ module _ (h : Header) (f : List ℕ) (records : List Process) (words log answers
         (omega arith, omega arith)
 
     -- words and rows after a crash or a wake
-    untouched : (action k.byte ≡ steps → ⊥) → ((carried h f l k).outcome ≡ Went k.log k.answers) × ((carried h f l k).words ≡ words) × ((carried h f l k).log ≡ log) × ((carried h f l k).answers ≡ answers)
+    untouched : (action k.byte ≡ steps → ⊥) → ((carried h f l k).outcome ≡ done k.log k.answers) × ((carried h f l k).words ≡ words) × ((carried h f l k).log ≡ log) × ((carried h f l k).answers ≡ answers)
     unfolding stepped state_of
     untouched n =
         let u = one.only_steps (table_of h f) k.position k.byte s n in
         let a = ft.log_room in
         let b = ft.answers_room in (
-          ap₂ Went (ap length u.log ∙ length-rows_of k.log log) (ap length u.answers ∙ length-rows_of k.answers answers),
+          ap₂ done (ap length u.log ∙ length-rows_of k.log log) (ap length u.answers ∙ length-rows_of k.answers answers),
           u.words,
           ap (λ es. infront (flat es) log) u.log ∙ sym (rows_same k.log log (omega arith)),
           ap (λ es. infront (flat es) answers) u.answers ∙ sym (rows_same k.answers answers (omega arith)),
@@ -222,5 +220,5 @@ module _ (h : Header) (f : List ℕ) (records : List Process) (words log answers
 
 -- refused, and all as it was (R222); or carried out, on a file that is accepted
 pub data Comes (f : List ℕ) (l : Lent) (k : Stroke) (p : Pressed) : Type 0 where
-  refused : (why : Why) (place : ℕ) → p ≡ record { outcome = Refused why place; processes = l.processes; words = l.words; log = l.log; answers = l.answers } → Comes f l k p
-  went : (h : Header) → file_refusal f ≡ checked.Accepted h → (m a : ℕ) → p.outcome ≡ Went m a → Frame h f l k p → Comes f l k p
+  refused : (why : Why) (place : ℕ) → p ≡ record { outcome = refuses why place; processes = l.processes; words = l.words; log = l.log; answers = l.answers } → Comes f l k p
+  went : (h : Header) → file_refusal f ≡ Ok h → (m a : ℕ) → p.outcome ≡ done m a → Frame h f l k p → Comes f l k p

@@ -1,6 +1,6 @@
 -- The definitions of a key at records and keys, by computation: of each condition of 21 a record that meets it and one beside it that does not
 -- (R231b to R231i); the order of the refusals (R220); which keys are idle (R226); and case f (R266), key after key.
-use Rattle.std.specs.Prelude.{ℕ, ◌+◌, ◌*◌, ◌^◌, ◌≡◌, refl, true, false, List, [], ◌∷◌, ◌++◌, map, replicate, Option, Some, None}
+use Rattle.std.specs.Prelude.{ℕ, ◌+◌, ◌*◌, ◌^◌, ◌≡◌, refl, true, false, List, [], ◌∷◌, ◌++◌, map, replicate, Option, Some, None, Ok, Err}
 use Rattle.runfile.specs.declared.Row.{Row}
 use Rattle.runfile.specs.declared.Refusal.TheVariants as refused
 use Rattle.runfile.specs.Format.{head_size, word_size, row_size, new_place}
@@ -23,10 +23,8 @@ use Rattle.machine.specs.Steps.{spoken, tried_in, storing_in, decide_in, step_tu
 use Rattle.machine.specs.Machine.{turn_in, apply, applied, proc_at, act_in, step_in}
 use Rattle.panel.specs.declared.Stroke.{Stroke}
 use Rattle.panel.specs.declared.Why.TheVariants.{Run}
-use Rattle.panel.specs.declared.Outcome.{Outcome}
-use Rattle.panel.specs.declared.Outcome.TheVariants.{Went, Refused}
 use Rattle.panel.specs.Possible.{misplaced, misdone, impossible, any_impossible}
-use Rattle.panel.specs.Press.{number_of_why, judged, verdict_of, state_of, stepped, Pressed, pressed}
+use Rattle.panel.specs.Press.{Outcome, done, refuses, number_of_why, judged, verdict_of, state_of, stepped, Pressed, pressed}
 use Rattle.panel.specs.Key.{keyed}
 use Rattle.panel.specs.Through.{stepping, ready}
 
@@ -144,8 +142,8 @@ down = with 0 None None Down ∷ with 0 None None Down ∷ []
 
 -- the number of the refusal, 0 for none
 abbrev refusal : Outcome → ℕ
-refusal (Went log answers) = 0
-refusal (Refused why place) = number_of_why why
+refusal (Ok counts) = 0
+refusal (Err r) = number_of_why r.why
 
 -- a key: the byte, its position, and the two row counts
 abbrev key_of : (byte position log answers : ℕ) → Stroke
@@ -184,7 +182,7 @@ pub idle-keys :
     (pressed_by 16 idle ∷ pressed_by 32 idle ∷ pressed_by 0 idle ∷ pressed_by 240 idle ∷ [] ≡ 0 ∷ 16 ∷ 0 ∷ 0 ∷ [])
     × (pressed_by 16 down ∷ pressed_by 32 down ∷ pressed_by 0 down ∷ pressed_by 240 down ∷ [] ≡ 16 ∷ 0 ∷ 0 ∷ 0 ∷ [])
     × (map (λ byte. pressed_by byte (with 0 None None Down ∷ fresh ∷ [])) (16 ∷ 17 ∷ 32 ∷ 33 ∷ []) ≡ 16 ∷ 0 ∷ 0 ∷ 16 ∷ [])
-    × ((keyed file idle (7 ∷ []) (replicate 5 0) (replicate 5 0) (key_of 32 0 0 0)).outcome ≡ Refused (Run refused.Idle) 0)
+    × ((keyed file idle (7 ∷ []) (replicate 5 0) (replicate 5 0) (key_of 32 0 0 0)).outcome ≡ refuses (Run refused.Idle) 0)
 unfolding keyed pressed verdict_of judged file_refusal header_in u16_at u32_at marked head_size word_size row_size new_place number_at row_at bad_field same_fields bad_byte first_bad_field first_row first_later_row first_byte table_of rows_from any_impossible impossible misplaced misdone row_numbered first count
 idle-keys = (refl, refl, refl, refl)
 
@@ -200,7 +198,7 @@ abbrev ended : Pressed
 ended = stepping case_f 0 keys (ready idle (7 ∷ []) (replicate 80 99) (replicate 80 99))
 
 pub f_stepped :
-    (ended.outcome ≡ Went 2 1)
+    (ended.outcome ≡ done 2 1)
     × (ended.words ≡ (9 + 2 * 4294967296) ∷ [])
     × (ended.log ≡ 10 ∷ 1 ∷ 1 ∷ 1 ∷ 0 ∷ 10 ∷ 0 ∷ 0 ∷ 0 ∷ 0 ∷ replicate 70 99)
     × (ended.answers ≡ 15 ∷ 0 ∷ 0 ∷ 0 ∷ 0 ∷ replicate 75 99)

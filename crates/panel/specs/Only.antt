@@ -2,8 +2,7 @@
 use Rattle.std.specs.Prelude.{ℕ, ◌≡◌, List}
 use Rattle.std.proofs.Common.{sym, ◌∙◌}
 use Rattle.machine.specs.declared.Process.{Process}
-use Rattle.panel.specs.declared.Outcome.{Outcome}
-use Rattle.panel.specs.Press.{Pressed, Leaves}
+use Rattle.panel.specs.Press.{Outcome, Pressed, Leaves}
 
 pub only : (p : Pressed) (r q : Outcome) (records records' : List Process) (words words' log log' answers answers' : List ℕ)
     → Leaves p r records words log answers → Leaves p q records' words' log' answers'

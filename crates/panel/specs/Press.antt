@@ -1,10 +1,9 @@
 -- One key of the panel: refused, for the file, for what is lent, for the position and the records or for the byte (R220 to R232); or carried
 -- out as a byte of a run (R202).
-use Rattle.std.specs.Prelude.{ℕ, ◌+◌, ◌*◌, ◌≤◌, ◌≡◌, Bool, false, cond, List, ◌++◌, ltb, get_or, length, take, drop}
+use Rattle.std.specs.Prelude.{ℕ, ◌+◌, ◌*◌, ◌≤◌, ◌≡◌, Bool, false, cond, List, ◌++◌, ltb, get_or, length, take, drop, Result, Ok, Err}
 use Rattle.runfile.specs.declared.Header.{Header}
 use Rattle.runfile.specs.declared.Room.{Room}
-use Rattle.runfile.specs.declared.Checked.{Checked}
-use Rattle.runfile.specs.declared.Checked.TheVariants as checked
+use Rattle.runfile.specs.declared.Refused.{Refused as FileRefused}
 use Rattle.runfile.specs.declared.Refusal.TheVariants.{Idle, WordsRoom, LogRoom, AnswersRoom}
 use Rattle.runfile.specs.Actions.{action, named}
 use Rattle.runfile.specs.Ups.{idle_by}
@@ -15,15 +14,13 @@ use Rattle.rows.specs.Buffers.{rows_of, flat, infront}
 use Rattle.machine.specs.declared.Process.{Process}
 use Rattle.machine.specs.Records.{nobody, is_awake}
 use Rattle.machine.specs.Machine.{State, step}
+use Rattle.run.specs.declared.Counts.{Counts}
 use Rattle.run.specs.Run.{room_of}
 use Rattle.panel.specs.declared.Stroke.{Stroke}
 use Rattle.panel.specs.declared.Table.{Table}
 use Rattle.panel.specs.declared.Why.{Why}
 use Rattle.panel.specs.declared.Why.TheVariants.{Run, Record, Key}
-use Rattle.panel.specs.declared.Verdict.{Verdict}
-use Rattle.panel.specs.declared.Verdict.TheVariants.{Fine, Not}
-use Rattle.panel.specs.declared.Outcome.{Outcome}
-use Rattle.panel.specs.declared.Outcome.TheVariants.{Went, Refused}
+use Rattle.panel.specs.declared.Refused.{Refused}
 use Rattle.panel.specs.Possible.{any_impossible}
 
 -- the numbers of a key's refusals (R220)
@@ -31,6 +28,27 @@ abbrev pub number_of_why : Why → ℕ
 number_of_why (Run why) = number_of why
 number_of_why Record = 21
 number_of_why Key = 22
+
+-- what a key comes to (R203): the two row counts after it, or the refusal; and whether it is carried out, on a file with this header
+abbrev pub Outcome : Type 0
+Outcome = Result Counts Refused
+
+abbrev pub Verdict : Type 0
+Verdict = Result Header Refused
+
+abbrev pub done : (log answers : ℕ) → Outcome
+done log answers = Ok (record { log = log; answers = answers })
+
+abbrev pub refuses : {A : Type 0} → Why → (place : ℕ) → Result A Refused
+refuses why place = Err (record { why = why; place = place })
+
+-- where the file is not at fault, the place is 0 (R31)
+abbrev pub at_none : Why → Refused
+at_none why = record { why = why; place = 0 }
+
+-- a refusal of the file is the key's (R221)
+abbrev pub of_file : FileRefused → Refused
+of_file r = record { why = Run r.why; place = r.place }
 
 -- what is lent: the records, and the three buffers (R201)
 pub record Lent : Type 0 where
@@ -45,10 +63,10 @@ lent processes words log answers = record { processes = processes; words = words
 -- 13 to 15, for a file that is accepted: enough words, enough records (R223), and room for one row (R224, R225)
 abbrev pub roomy : Header → (held : ℕ) → Room → Stroke → Verdict
 roomy h held room k =
-    cond (ltb room.words h.words) (Not (Run WordsRoom) 0)
-    (cond (ltb held h.processes) (Not (Run WordsRoom) 0)
-    (cond (ltb room.log (k.log * 5 + 5)) (Not (Run LogRoom) 0)
-    (cond (ltb room.answers (k.answers * 5 + 5)) (Not (Run AnswersRoom) 0) (Fine h))))
+    cond (ltb room.words h.words) (refuses (Run WordsRoom) 0)
+    (cond (ltb held h.processes) (refuses (Run WordsRoom) 0)
+    (cond (ltb room.log (k.log * 5 + 5)) (refuses (Run LogRoom) 0)
+    (cond (ltb room.answers (k.answers * 5 + 5)) (refuses (Run AnswersRoom) 0) (Ok h))))
 
 -- the byte is a crash of a process that is down by its lent record, or a wake of one that is awake (R226)
 abbrev pub idle_key : List Process → (byte : ℕ) → Bool
@@ -57,21 +75,21 @@ idle_key processes byte = idle_by (action byte) (is_awake (get_or processes (nam
 -- then 21 (R231), 22 (R232) and 16 (R226)
 abbrev pub sound : Header → List ℕ → List Process → Stroke → Verdict
 sound h f processes k =
-    cond (ltb 1023 k.position) (Not Record 0)
-    (cond (any_impossible (table_of h f) processes 0 h.processes) (Not Record 0)
-    (cond (bad_byte h.processes k.byte) (Not Key 0)
-    (cond (idle_key processes k.byte) (Not (Run Idle) 0) (Fine h))))
+    cond (ltb 1023 k.position) (refuses Record 0)
+    (cond (any_impossible (table_of h f) processes 0 h.processes) (refuses Record 0)
+    (cond (bad_byte h.processes k.byte) (refuses Key 0)
+    (cond (idle_key processes k.byte) (refuses (Run Idle) 0) (Ok h))))
 
 abbrev pub and_then : Verdict → Verdict → Verdict
-and_then (Not why place) next = Not why place
-and_then (Fine h) next = next
+and_then (Err r) next = Err r
+and_then (Ok h) next = next
 
 unfoldable pub judged : Header → List ℕ → Table → Room → Stroke → Verdict
 judged h f t room k = and_then (roomy h t.held room k) (sound h f t.processes k)
 
-abbrev pub judged_as : Checked → List ℕ → Table → Room → Stroke → Verdict
-judged_as (checked.Refused why place) f t room k = Not (Run why) place
-judged_as (checked.Accepted h) f t room k = judged h f t room k
+abbrev pub judged_as : Result Header FileRefused → List ℕ → Table → Room → Stroke → Verdict
+judged_as (Err r) f t room k = Err (of_file r)
+judged_as (Ok h) f t room k = judged h f t room k
 
 -- the file's own refusals, 1 to 12, go first (R220, R221)
 unfoldable pub verdict_of : List ℕ → Table → Room → Stroke → Verdict
@@ -97,7 +115,7 @@ abbrev pub carried : Header → List ℕ → Lent → Stroke → Pressed
 carried h f l k =
     let s = stepped h f l k in
     record {
-      outcome = Went (length s.log) (length s.answers);
+      outcome = done (length s.log) (length s.answers);
       processes = s.processes ++ drop h.processes l.processes;
       words = s.words;
       log = infront (flat s.log) l.log;
@@ -106,8 +124,8 @@ carried h f l k =
 
 -- refused: all that was lent is as it was (R222)
 abbrev pub pressed_as : Verdict → List ℕ → Lent → Stroke → Pressed
-pressed_as (Not why place) f l k = record { outcome = Refused why place; processes = l.processes; words = l.words; log = l.log; answers = l.answers }
-pressed_as (Fine h) f l k = carried h f l k
+pressed_as (Err r) f l k = record { outcome = Err r; processes = l.processes; words = l.words; log = l.log; answers = l.answers }
+pressed_as (Ok h) f l k = carried h f l k
 
 unfoldable pub pressed : (file : List ℕ) → Table → (words log answers : List ℕ) → Stroke → Pressed
 pressed file t words log answers k = pressed_as (verdict_of file t (room_of words log answers) k) file (lent t.processes words log answers) k

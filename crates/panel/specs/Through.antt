@@ -2,7 +2,7 @@
 -- after each one the records, the words and the rows are those of the run after as many bytes. By going through the schedule: what the buffers
 -- hold is the machine's state, and a key makes of it what a byte does.
 use Prim.Native.Nat.{ℕ, zero, suc, ◌+◌, ◌*◌, ◌≤◌, ◌<◌}
-use Rattle.std.specs.Prelude.{◌≡◌, Bool, List, [], ◌∷◌, ◌++◌, get_or, take, replicate}
+use Rattle.std.specs.Prelude.{◌≡◌, Bool, List, [], ◌∷◌, ◌++◌, get_or, take, replicate, Ok, Err}
 use Rattle.std.proofs.Math.Path.{refl, ap, subst}
 use Rattle.std.proofs.Common.{sym, ◌∙◌, add-zero, zero-add, suc-add, add-suc, arith, take-append-drop, length-append, take-suc, take_at, drop_at, take_all, length-take-le}
 use Rattle.std.proofs.Math.Bool.{true, false}
@@ -11,7 +11,6 @@ use Rattle.std.proofs.Math.ListN.{length, drop, get_or-append, length-replicate}
 use borrow.Author.Tests.{ltb-true, ltb-false, le-ltb}
 use Rattle.runfile.specs.declared.Header.{Header}
 use Rattle.runfile.specs.declared.Row.{Row}
-use Rattle.runfile.specs.declared.Checked.TheVariants.{Accepted}
 use Rattle.runfile.specs.Layout.{schedule_in, rows_start, stride_of}
 use Rattle.runfile.specs.Operations.{words_from, words_of, table_of, rows_from, row_numbered}
 use Rattle.runfile.specs.OperationLaws.{length-words_from, row_numbered-rows_from, row_numbered_past}
@@ -27,26 +26,21 @@ use Rattle.machine.specs.declared.Process.{Process}
 use Rattle.machine.specs.Records.{fresh, nobody, is_awake}
 use Rattle.machine.specs.Laws.{after_next, get_or_either}
 use Rattle.machine.specs.Machine.{State, proc_at, step, after, after_in, begin}
-use Rattle.run.specs.declared.Outcome.{Outcome as RunOutcome}
-use Rattle.run.specs.declared.Outcome.TheVariants.{Ran}
 use Rattle.machine.proofs.Awake.{awake_up}
-use Rattle.run.specs.Run.{end_of, room_of, EndsAs, Ends}
+use Rattle.run.specs.Run.{Outcome as RunOutcome, ran, end_of, room_of, EndsAs, Ends}
 use Rattle.run.specs.Struck.{state_at, named_there}
 use Rattle.panel.specs.declared.Stroke.{Stroke}
 use Rattle.panel.specs.declared.Table.{Table}
-use Rattle.panel.specs.declared.Outcome.{Outcome}
-use Rattle.panel.specs.declared.Outcome.TheVariants.{Went, Refused}
-use Rattle.panel.specs.declared.Verdict.TheVariants.{Fine}
 use Rattle.panel.specs.Possible.{impossible, any_impossible}
 use Rattle.panel.specs.Lives.{Lives, lives_step, lives_begin, lives_possible}
 use Rattle.panel.specs.Longer.{longer, step-longer, grows}
-use Rattle.panel.specs.Press.{Lent, lent, idle_key, judged, verdict_of, state_of, stepped, Pressed, carried, pressed_as, pressed, Leaves}
+use Rattle.panel.specs.Press.{Outcome, done, Lent, lent, idle_key, judged, verdict_of, state_of, stepped, Pressed, carried, pressed_as, pressed, Leaves}
 use Rattle.panel.specs.Key.{keyed}
 
 -- the key after one that came to this: the counts are handed on; after a refusal none is pressed
 abbrev pub key_after : List ℕ → (t byte : ℕ) → Pressed → Outcome → Pressed
-key_after f t byte p (Went log answers) = keyed f p.processes p.words p.log p.answers (record { byte = byte; position = t; log = log; answers = answers })
-key_after f t byte p (Refused why place) = p
+key_after f t byte p (Ok counts) = keyed f p.processes p.words p.log p.answers (record { byte = byte; position = t; log = counts.log; answers = counts.answers })
+key_after f t byte p (Err r) = p
 
 -- key after key, the first of them at position t
 unfoldable pub stepping : List ℕ → ℕ → List ℕ → Pressed → Pressed
@@ -69,12 +63,12 @@ stepping_next f schedule i p h =
 
 -- before the first key: no rows (R208)
 abbrev pub ready : List Process → (words log answers : List ℕ) → Pressed
-ready records words log answers = record { outcome = Went 0 0; processes = records; words = words; log = log; answers = answers }
+ready records words log answers = record { outcome = done 0 0; processes = records; words = words; log = log; answers = answers }
 
 -- the state s of P processes, in what was lent
 abbrev pub holding : ℕ → List Process → (words log answers : List ℕ) → State → Pressed
 holding P records words log answers s = record {
-  outcome = Went (length s.log) (length s.answers);
+  outcome = done (length s.log) (length s.answers);
   processes = s.processes ++ drop P records;
   words = infront s.words words;
   log = infront (flat s.log) log;
@@ -90,7 +84,7 @@ alike : (o : Outcome) {ps qs : List Process} {w v l m a b : List ℕ} → ps ≡
     → ◌≡◌ {A = Pressed} (record { outcome = o; processes = ps; words = w; log = l; answers = a }) (record { outcome = o; processes = qs; words = v; log = m; answers = b })
 alike o e i j k = rw (e, i, j, k) refl
 
-module _ (f words log answers : List ℕ) (h : Header) (fine : refusal_of f (room_of words log answers) ≡ Accepted h) (records : List Process) (many : h.processes ≤ length records) where
+module _ (f words log answers : List ℕ) (h : Header) (fine : refusal_of f (room_of words log answers) ≡ Ok h) (records : List Process) (many : h.processes ≤ length records) where
   abbrev rows : List Row
   rows = table_of h f
 
@@ -166,7 +160,7 @@ module _ (f words log answers : List ℕ) (h : Header) (fine : refusal_of f (roo
     not_idle : idle_key (s.processes ++ drop P records) byte ≡ false
     not_idle = rw (there (named byte) present) calm
 
-    not_refused : verdict_of f whole (room_of (held s).words (held s).log (held s).answers) k ≡ Fine h
+    not_refused : verdict_of f whole (room_of (held s).words (held s).log (held s).answers) k ≡ Ok h
     unfolding verdict_of judged
     not_refused =
         rw (
@@ -201,7 +195,7 @@ module _ (f words log answers : List ℕ) (h : Header) (fine : refusal_of f (roo
     carried_is : carried h f lends k ≡ held (step rows t byte s)
     carried_is =
         ap (λ u. record {
-          outcome = Went (length u.log) (length u.answers);
+          outcome = done (length u.log) (length u.answers);
           processes = u.processes ++ drop P (held s).processes;
           words = u.words;
           log = infront (flat u.log) (held s).log;
@@ -269,11 +263,11 @@ module _ (f words log answers : List ℕ) (h : Header) (fine : refusal_of f (roo
 
     -- whatever `run` returned and left, over the same file and buffers as long: the counts, the words, the log and the answers are the stepping's (R208)
     pub ends_as_run : (r : RunOutcome) (words' log' answers' : List ℕ) → Ends f words log answers r words' log' answers'
-        → (m : ℕ) × ((k : ℕ) × ((r ≡ Ran m k) × Leaves (stepping f 0 (schedule_in h f) start) (Went m k) ((end_of h f).processes ++ drop P records) words' log' answers'))
+        → (m : ℕ) × ((k : ℕ) × ((r ≡ ran m k) × Leaves (stepping f 0 (schedule_in h f) start) (done m k) ((end_of h f).processes ++ drop P records) words' log' answers'))
     ends_as_run r words' log' answers' e = (length (end_of h f).log, (length (end_of h f).answers, (run_is.result, rw ends run_leaves)))
       where
-        run_is : EndsAs (Accepted h) f words log answers r words' log' answers'
+        run_is : EndsAs (Ok h) f words log answers r words' log' answers'
         run_is = subst (λ c. EndsAs c f words log answers r words' log' answers') fine e
 
-        run_leaves : Leaves (held (end_of h f)) (Went (length (end_of h f).log) (length (end_of h f).answers)) ((end_of h f).processes ++ drop P records) words' log' answers'
+        run_leaves : Leaves (held (end_of h f)) (done (length (end_of h f).log) (length (end_of h f).answers)) ((end_of h f).processes ++ drop P records) words' log' answers'
         run_leaves = record { result = refl; processes_are = refl; words_are = run_is.words_are; log_is = run_is.log_is; answers_are = run_is.answers_are }

@@ -1,7 +1,7 @@
 // Whether a key is carried out: refusals 13 to 15, 21, 22 and 16, for a file that is accepted; and before them the file's own (R220).
 ghost use Rattle.std.specs.Prelude.{◌≡◌, ◌||◌, ◌+◌, ◌*◌, ◌≤◌, length};
 ghost use Rattle.runfile.specs.Format.{RowSize};
-ghost use Rattle.runfile.specs.Operations.{rows_from, row_numbered};
+ghost use Rattle.runfile.specs.Operations.{rows_from, row_numbered, table_of};
 ghost use Rattle.runfile.specs.Kinds.{kind_of};
 ghost use Rattle.runfile.specs.Lawful.{LawfulFile};
 ghost use Rattle.runfile.specs.Shares.{Lined};
@@ -10,9 +10,9 @@ ghost use Rattle.panel.specs.Possible as possible;
 ghost use Rattle.panel.specs.Press as press;
 
 use super::possible::{misdone, misplaced};
-use super::{Stroke, Table, Verdict, Why};
+use super::{Refused, Stroke, Table, Why};
 use machine::{Process, Status};
-use runfile::{Checked, Header, Kind, Refusal, Room};
+use runfile::{Header, Kind, Refusal, Room};
 
 // Whether a record cannot be, whose process has `count` rows from row `first` on (R231b to R231i).
 fn is_impossible(
@@ -64,23 +64,30 @@ fn any_impossible(
     false
 }
 
+// Every refusal but the file's own is at place 0 (R31).
+fn refused(why: Why) -> Refused
+    ensures { result ≡ press.at_none why }
+{
+    Refused { why, place: 0 }
+}
+
 // 13 to 15: the words, the records, and room for one row more of each kind (R223 to R225).
-fn room_verdict(header: Header, held: usize, room: Room, key: Stroke) -> Verdict
+fn room_verdict(header: Header, held: usize, room: Room, key: Stroke) -> Result<Header, Refused>
     ensures { result ≡ press.roomy header held room key }
 {
     if room.words < runfile::index8(header.words) {
-        return Verdict::Not(Why::Run(Refusal::WordsRoom), 0);
+        return Err(refused(Why::Run(Refusal::WordsRoom)));
     }
     if held < runfile::index8(header.processes) {
-        return Verdict::Not(Why::Run(Refusal::WordsRoom), 0);
+        return Err(refused(Why::Run(Refusal::WordsRoom)));
     }
     if room.log / 5 <= key.log {
-        return Verdict::Not(Why::Run(Refusal::LogRoom), 0);
+        return Err(refused(Why::Run(Refusal::LogRoom)));
     }
     if room.answers / 5 <= key.answers {
-        return Verdict::Not(Why::Run(Refusal::AnswersRoom), 0);
+        return Err(refused(Why::Run(Refusal::AnswersRoom)));
     }
-    Verdict::Fine(header)
+    Ok(header)
 }
 
 fn is_awake(status: Status) -> bool
@@ -112,42 +119,49 @@ fn is_idle_key(processes: [Process; 16], byte: u8) -> bool
     runfile::is_idle(byte, is_awake(status))
 }
 
+// Whether the record of one of the file's processes cannot be, for a file that is accepted (R231).
+fn has_impossible(file: &[u8], header: Header, processes: [Process; 16]) -> bool
+    requires { LawfulFile header file.now }
+    ensures { result ≡ possible.any_impossible (table_of header file.now) processes 0 header.processes }
+{
+    let rows_at = runfile::rows_start(header);
+    let stride = runfile::stride_of(header);
+    let rows = runfile::index16(header.rows);
+    let present = runfile::index8(header.processes);
+    any_impossible(&file[rows_at..], stride, rows, processes, present)
+}
+
 // 21, 22 and 16: the position, the records and the byte (R231, R232, R226).
-fn sound_verdict(file: &[u8], header: Header, processes: [Process; 16], key: Stroke) -> Verdict
+fn sound_verdict(
+    file: &[u8],
+    header: Header,
+    processes: [Process; 16],
+    key: Stroke,
+) -> Result<Header, Refused>
     requires { LawfulFile header file.now }
     ensures { result ≡ press.sound header file.now processes key }
 {
     if 1023 < key.position {
-        return Verdict::Not(Why::Record, 0);
+        return Err(refused(Why::Record));
     }
-    let stride = runfile::stride_of(header);
-    let rows_at = runfile::rows_start(header);
-    let rows = runfile::index16(header.rows);
-    let present = runfile::index8(header.processes);
-    if any_impossible(&file[rows_at..], stride, rows, processes, present) {
-        return Verdict::Not(Why::Record, 0);
+    if has_impossible(file, header, processes) {
+        return Err(refused(Why::Record));
     }
     if runfile::is_bad_byte(key.byte, header.processes) {
-        return Verdict::Not(Why::Key, 0);
+        return Err(refused(Why::Key));
     }
     if is_idle_key(processes, key.byte) {
-        return Verdict::Not(Why::Run(Refusal::Idle), 0);
+        return Err(refused(Why::Run(Refusal::Idle)));
     }
-    Verdict::Fine(header)
+    Ok(header)
 }
 
 // The verdict on a key.
-pub fn verdict_of(file: &[u8], table: Table, room: Room, key: Stroke) -> Verdict
+#[tactic(auto, unfolding(crate::specs::Press::verdict_of, crate::specs::Press::judged))]
+pub fn verdict_of(file: &[u8], table: Table, room: Room, key: Stroke) -> Result<Header, Refused>
     ensures { result ≡ press.verdict_of file.now table room key }
 {
-    match runfile::check_file(file) {
-        Checked::Refused(why, place) => Verdict::Not(Why::Run(why), place),
-        Checked::Accepted(header) => match room_verdict(header, table.held, room, key) {
-            Verdict::Not(why, place) => Verdict::Not(why, place),
-            Verdict::Fine(_) => {
-                let processes = table.processes;
-                sound_verdict(file, header, processes, key)
-            }
-        },
-    }
+    let header = runfile::check_file(file)?;
+    room_verdict(header, table.held, room, key)?;
+    sound_verdict(file, header, table.processes, key)
 }

@@ -9,13 +9,14 @@ mod possible;
 mod press;
 mod records;
 
+ghost use Rattle.panel.specs.Press.{of_file};
 ghost use Rattle.panel.specs.Promises.{Keyed, WhyNumbered};
 ghost use Rattle.std.specs.Prelude.{◌≡◌};
 
 use machine::Process;
 use press::press;
 use records::{give, held, take};
-use runfile::Header;
+use run::Counts;
 
 // A key as it is struck: the byte, its position, and how many rows stand in the log and in the answers (R201).
 #[derive(Clone, Copy)]
@@ -27,7 +28,7 @@ pub struct Stroke {
 }
 
 // Why a key is refused.
-#[derive(Clone, Copy)]
+#[derive(Clone, Copy, Debug, PartialEq, Eq)]
 pub enum Why {
     // One that a run has too: 1 to 12 are the file's (R221). `WordsRoom` is also a list of records that is too short (R223),
     // `LogRoom` and `AnswersRoom` say that one row more does not fit (R224, R225), and `Idle` is of the key's byte (R226).
@@ -38,18 +39,23 @@ pub enum Why {
     Key,
 }
 
-// What a key comes to: refused, with the place in the file; or done, with the two row counts after it (R203).
-#[derive(Clone, Copy)]
-pub enum Outcome {
-    Went { log: usize, answers: usize },
-    Refused(Why, usize),
+// A key that is refused: why, and the place in the file (R203).
+#[derive(Clone, Copy, Debug, PartialEq, Eq)]
+pub struct Refused {
+    pub why: Why,
+    pub place: usize,
 }
 
-// Whether a key is carried out, on a file with this header, or refused.
-#[derive(Clone, Copy)]
-pub enum Verdict {
-    Fine(Header),
-    Not(Why, usize),
+// A refusal of the file is the key's (R221).
+impl From<runfile::Refused> for Refused {
+    ghost from_gives = { λ file refused. refused ≡ of_file file };
+
+    fn from(file: runfile::Refused) -> Refused {
+        Refused {
+            why: Why::Run(file.why),
+            place: file.place,
+        }
+    }
 }
 
 // Sixteen records by value, of which the first `held` are the caller's.
@@ -57,13 +63,6 @@ pub enum Verdict {
 pub struct Table {
     pub processes: [Process; 16],
     pub held: usize,
-}
-
-// The records of the table after a key, and what the key came to.
-#[derive(Clone, Copy)]
-pub struct After {
-    pub processes: [Process; 16],
-    pub outcome: Outcome,
 }
 
 // The number of a refusal (R220).
@@ -77,22 +76,8 @@ pub fn why_number(why: Why) -> u32
     }
 }
 
-// The records that `press` left.
-fn processes_of(after: After) -> [Process; 16]
-    ensures { result ≡ after.processes }
-{
-    let processes = after.processes;
-    processes
-}
-
-// The table of these records, of which the first `held` are the caller's.
-fn table_of(processes: [Process; 16], held: usize) -> Table
-    ensures { (result.processes ≡ processes) × (result.held ≡ held) }
-{
-    Table { processes, held }
-}
-
-// One key over the lent records: of more than sixteen only the first sixteen are looked at (R205, R306).
+// One key over the lent records: of more than sixteen only the first sixteen are looked at (R205, R306). It comes to the
+// two row counts after it (R203).
 pub fn key(
     file: &[u8],
     records: &mut [Process],
@@ -100,15 +85,18 @@ pub fn key(
     log: &mut [u32],
     answers: &mut [u32],
     key: Stroke,
-) -> Outcome
+) -> Result<Counts, Refused>
     ensures { Keyed file.now records.old words.old log.old answers.old key
         result records.new words.new log.new answers.new }
 {
     let n = held(records.len());
     let processes = take(records, n);
-    let table = table_of(processes, n);
-    let after = press(file, table, words, log, answers, key);
-    let left = processes_of(after);
-    give(records, n, left);
-    after.outcome
+    let table = Table { processes, held: n };
+    let left = press(file, table, words, log, answers, key)?;
+    let processes = left.processes;
+    give(records, n, processes);
+    Ok(Counts {
+        log: left.log,
+        answers: left.answers,
+    })
 }

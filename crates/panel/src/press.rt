@@ -2,7 +2,7 @@
 ghost use Rattle.panel.specs.Promises.{PressedOn};
 
 use super::judge::verdict_of;
-use super::{After, Outcome, Stroke, Table, Verdict};
+use super::{Refused, Stroke, Table};
 use engine::{Part, Standing};
 use runfile::Room;
 
@@ -13,7 +13,7 @@ pub fn press(
     log: &mut [u32],
     answers: &mut [u32],
     key: Stroke,
-) -> After
+) -> Result<Standing, Refused>
     ensures { PressedOn file.now table words.old log.old answers.old key result words.new log.new answers.new }
 {
     let room = Room {
@@ -21,40 +21,21 @@ pub fn press(
         log: log.len(),
         answers: answers.len(),
     };
+    let header = verdict_of(file, table, room, key)?;
+    let rows_at = runfile::rows_start(header);
     let processes = table.processes;
-    match verdict_of(file, table, room, key) {
-        Verdict::Not(why, place) => After {
+    let part = Part {
+        stride: runfile::stride_of(header),
+        rows: runfile::index16(header.rows),
+        present: runfile::index8(header.processes),
+        from: Standing {
             processes,
-            outcome: Outcome::Refused(why, place),
+            position: key.position,
+            log: key.log,
+            answers: key.answers,
         },
-        Verdict::Fine(header) => {
-            let stride = runfile::stride_of(header);
-            let rows_at = runfile::rows_start(header);
-            let rows = runfile::index16(header.rows);
-            let present = runfile::index8(header.processes);
-            let bytes = [key.byte];
-            let from = Standing {
-                processes,
-                position: key.position,
-                log: key.log,
-                answers: key.answers,
-            };
-            let part = Part {
-                stride,
-                rows,
-                present,
-                from,
-            };
-            let left = engine::run_bytes(&file[rows_at..], &bytes, words, log, answers, part);
-            let moved = left.processes;
-            let outcome = Outcome::Went {
-                log: left.log,
-                answers: left.answers,
-            };
-            After {
-                processes: moved,
-                outcome,
-            }
-        }
-    }
+    };
+    let bytes = [key.byte];
+    let left = engine::run_bytes(&file[rows_at..], &bytes, words, log, answers, part);
+    Ok(left)
 }

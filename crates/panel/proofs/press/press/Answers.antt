@@ -1,5 +1,6 @@
 -- `press` meets its contract: refused, or run, as the verdict says.
 use Rattle.std.proofs.Common.{◌≡◌, sym, ℕ, ◌≤◌, List, length, arith, rules}
+use Rattle.std.proofs.lemmas.Result.{err_from_is_err_and}
 use Rattle.runfile.specs.declared.Header.{Header}
 use Rattle.runfile.specs.declared.Room.{Room}
 use Rattle.runfile.specs.Layout.{rows_start}
@@ -18,30 +19,31 @@ rows_in h f ps room k ft at r = let e = ft.lawful.head.exact in omega arith
 pub slice_bounds-run_bytes-count : goal.slice_bounds-run_bytes-count
 slice_bounds-run_bytes-count c =
     let b = c.args in
-    let ft = fit b.file.now b.table (room_of b.words.now b.log.now b.answers.now) b.key _ (sym c.in-Fine.ensures) in
+    let ft = fit b.file.now b.table (room_of b.words.now b.log.now b.answers.now) b.key _ (sym c.in_ok-header.ensures) in
     rows_in _ _ _ _ _ ft _ c.rows_start-rows_at.ensures.0
 
 pub slice_bounds-run_bytes-start : goal.slice_bounds-run_bytes-start
 slice_bounds-run_bytes-start c =
     let b = c.args in
-    let ft = fit b.file.now b.table (room_of b.words.now b.log.now b.answers.now) b.key _ (sym c.in-Fine.ensures) in
+    let ft = fit b.file.now b.table (room_of b.words.now b.log.now b.answers.now) b.key _ (sym c.in_ok-header.ensures) in
     let e = rows_in _ _ _ _ _ ft _ c.rows_start-rows_at.ensures.0 in
     search rules
 
 pub run_bytes-left-requires : goal.run_bytes-left-requires
 run_bytes-left-requires c =
     let b = c.args in
-    let ft = fit b.file.now b.table (room_of b.words.now b.log.now b.answers.now) b.key _ (sym c.in-Fine.ensures) in
-    able_in _ _ (lent b.table.processes b.words.now b.log.now b.answers.now) _ ft _ _ _ _ c.stride_of-stride.ensures.0 c.rows_start-rows_at.ensures.0 c.index16-rows.ensures.0 c.index8-present.ensures.0
+    let ft = fit b.file.now b.table (room_of b.words.now b.log.now b.answers.now) b.key _ (sym c.in_ok-header.ensures) in
+    able_in _ _ (lent b.table.processes b.words.now b.log.now b.answers.now) _ ft _ _ _ _ c.stride_of.ensures.0 c.rows_start-rows_at.ensures.0 c.index16.ensures.0 c.index8.ensures.0
 
-pub returns-in-Not : goal.returns-in-Not
-returns-in-Not c =
+pub returns-in_err-header : goal.returns-in_err-header
+returns-in_err-header c =
     let b = c.args in
-    was_refused b.file.now b.table b.words.now b.log.now b.answers.now b.key _ _ (sym c.in-Not.ensures)
+    let p = err_from_is_err_and c.from_residual.result c.from_residual.ensures.1 in
+    rw (p.1, p.2) (was_refused b.file.now b.table b.words.now b.log.now b.answers.now b.key _ (sym c.in_err-header.ensures))
 
-pub returns-in-Fine : goal.returns-in-Fine
-returns-in-Fine c =
+pub returns : goal.returns
+returns c =
     let b = c.args in
-    let ft = fit b.file.now b.table (room_of b.words.now b.log.now b.answers.now) b.key _ (sym c.in-Fine.ensures) in
-    was_fine b.file.now b.table b.words.now b.log.now b.answers.now b.key _ (sym c.in-Fine.ensures) _ _ _ _ _
-    (went _ _ (lent b.table.processes b.words.now b.log.now b.answers.now) _ ft _ _ _ _ c.stride_of-stride.ensures.0 c.rows_start-rows_at.ensures.0 c.index16-rows.ensures.0 c.index8-present.ensures.0 _ _ _ _ c.run_bytes-left.ensures)
+    let ft = fit b.file.now b.table (room_of b.words.now b.log.now b.answers.now) b.key _ (sym c.in_ok-header.ensures) in
+    was_fine b.file.now b.table b.words.now b.log.now b.answers.now b.key _ (sym c.in_ok-header.ensures) _ _ _ _ _
+    (went _ _ (lent b.table.processes b.words.now b.log.now b.answers.now) _ ft _ _ _ _ c.stride_of.ensures.0 c.rows_start-rows_at.ensures.0 c.index16.ensures.0 c.index8.ensures.0 _ _ _ _ c.run_bytes-left.ensures)
