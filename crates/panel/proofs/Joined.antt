@@ -1,6 +1,7 @@
 -- What the callees of `key` say comes to what it promises.
-use mathlib.Core.Path.{◌≡◌, sym, ◌∙◌, ap, subst}
-use Prim.Native.Nat.{ℕ, ◌≤◌, min}
+use mathlib.Core.Path.{◌≡◌, sym, ◌∙◌, ap, ap₂, subst}
+use Prim.Native.Nat.{ℕ, min}
+use native.Mathlib.Omega.{arith}
 use mathlib.Core.List.{List}
 use lib.ListN.{length}
 use Rattle.std.specs.Prelude.{Result, Ok, Err}
@@ -25,35 +26,29 @@ laid_back n records records' p r processes words log answers l e = record {
   answers_are = l.answers_are;
 }
 
--- sixteen records, of which the first n are the caller's
-abbrev pub table_of : ℕ → List Process → Table
-table_of n processes = record { processes = processes; held = n }
-
 module _ (file : List ℕ) (records : List Process) (words log answers : List ℕ) (key : Stroke) where
-  -- over a table that `take` has filled, of which the first n are laid back
-  over : (n : ℕ) → n ≡ min (length records) 16 → (r : Result Standing Refused) (records' : List Process) (words' log' answers' : List ℕ)
-      → PressedOn file (table_of n (laid n records blank)) words log answers key r words' log' answers' → records' ≡ laid n (processes_of (laid n records blank) r) records
+  -- over a table that `Table::of` has filled, of which the first n are laid back
+  over : (t : Table) → t.held ≡ min (length records) 16 → t.processes ≡ laid t.held records blank → (r : Result Standing Refused) (records' : List Process) (words' log' answers' : List ℕ)
+      → PressedOn file t words log answers key r words' log' answers' → records' ≡ laid t.held (processes_of t.processes r) records
       → Keyed file records words log answers key (outcome_of r) records' words' log' answers'
-  over n n-is r records' words' log' answers' l e =
+  over t held filled r records' words' log' answers' l e =
+      let whole : t ≡ record { processes = laid (min (length records) 16) records blank; held = min (length records) 16 } = ap₂ (λ (ps : List Process) (m : ℕ). record { processes = ps; held = m }) (filled ∙ ap (λ (m : ℕ). laid m records blank) held) held in
       subst (λ (p : Pressed). Leaves p (outcome_of r) records' words' log' answers') (keyed_is file records words log answers key)
-      (subst (λ (m : ℕ). Leaves (given_back m records (pressed file (table_of m (laid m records blank)) words log answers key)) (outcome_of r) records' words' log' answers') n-is
-      (laid_back n records records' _ (outcome_of r) _ words' log' answers' l e))
+      (subst (λ (t : Table). Leaves (given_back t.held records (pressed file t words log answers key)) (outcome_of r) records' words' log' answers') whole
+      (laid_back t.held records records' _ (outcome_of r) _ words' log' answers' l e))
 
   -- carried out: the records are given back
-  pub joined : (n : ℕ) (u : List Process) (left : Standing) (records' : List Process) (words' log' answers' : List ℕ)
-      → n ≡ min (length records) 16 → u ≡ laid n records blank
-      → PressedOn file (table_of n u) words log answers key (Ok left) words' log' answers' → records' ≡ laid n left.processes records
+  pub joined : (t : Table) (left : Standing) (records' : List Process) (words' log' answers' : List ℕ)
+      → t.held ≡ min (length records) 16 → t.processes ≡ laid t.held records blank
+      → PressedOn file t words log answers key (Ok left) words' log' answers' → records' ≡ laid t.held left.processes records
       → Keyed file records words log answers key (done left.log left.answers) records' words' log' answers'
-  joined n u left records' words' log' answers' n-is u-is l =
-      over n n-is (Ok left) records' words' log' answers'
-      (subst (λ (u : List Process). PressedOn file (table_of n u) words log answers key (Ok left) words' log' answers') u-is l)
+  joined t left records' words' log' answers' held filled = over t held filled (Ok left) records' words' log' answers'
 
   -- refused: the lent records are as they were
-  pub joined_refused : (n : ℕ) (u : List Process) (r : Refused) (words' log' answers' : List ℕ)
-      → n ≡ min (length records) 16 → n ≤ length records → u ≡ laid n records blank
-      → PressedOn file (table_of n u) words log answers key (Err r) words' log' answers'
+  pub joined_refused : (t : Table) (r : Refused) (words' log' answers' : List ℕ)
+      → t.held ≡ min (length records) 16 → t.processes ≡ laid t.held records blank
+      → PressedOn file t words log answers key (Err r) words' log' answers'
       → Keyed file records words log answers key (Err r) records words' log' answers'
-  joined_refused n u r words' log' answers' n-is fits u-is l =
-      over n n-is (Err r) records words' log' answers'
-      (subst (λ (u : List Process). PressedOn file (table_of n u) words log answers key (Err r) words' log' answers') u-is l)
-      (sym (laid_same records blank n fits))
+  joined_refused t r words' log' answers' held filled l =
+      over t held filled (Err r) records words' log' answers' l
+      (sym (ap (λ (ps : List Process). laid t.held ps records) filled ∙ laid_same records blank t.held (omega arith)))

@@ -1,4 +1,3 @@
-pub mod Laying
 pub mod Sixteen
 pub mod Joined
 pub mod Ors

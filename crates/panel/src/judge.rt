@@ -29,12 +29,11 @@ fn is_impossible(
     if misplaced(first, count, process) {
         return true;
     }
-    let opened = process.opened;
-    match opened {
+    match process.opened {
         // With no row open no kind is asked for (R231i).
         None => misdone(Kind::Read, process),
         Some(k) => {
-            let row = runfile::row_at(table, stride, runfile::index16(k));
+            let row = runfile::row_at(table, stride, usize::from(k));
             misdone(runfile::kind_of(row), process)
         }
     }
@@ -53,13 +52,10 @@ fn any_impossible(
 {
     let counts = runfile::counts_of(table, stride, n);
     let firsts = runfile::firsts_of(counts);
-    let mut p = 0;
-    while p < present {
-        let process = processes[p];
-        if is_impossible(table, stride, n, firsts[p], counts[p], process) {
+    for p in 0..present {
+        if is_impossible(table, stride, n, firsts[p], counts[p], processes[p]) {
             return true;
         }
-        p += 1;
     }
     false
 }
@@ -75,10 +71,10 @@ fn refused(why: Why) -> Refused
 fn room_verdict(header: Header, held: usize, room: Room, key: Stroke) -> Result<Header, Refused>
     ensures { result ≡ press.roomy header held room key }
 {
-    if room.words < runfile::index8(header.words) {
+    if room.words < usize::from(header.words) {
         return Err(refused(Why::Run(Refusal::WordsRoom)));
     }
-    if held < runfile::index8(header.processes) {
+    if held < usize::from(header.processes) {
         return Err(refused(Why::Run(Refusal::WordsRoom)));
     }
     if room.log / 5 <= key.log {
@@ -90,33 +86,13 @@ fn room_verdict(header: Header, held: usize, room: Room, key: Stroke) -> Result<
     Ok(header)
 }
 
-fn is_awake(status: Status) -> bool
-    ensures { result ≡ is_awake status }
-{
-    match status {
-        Status::Down => false,
-        Status::Idle => true,
-        Status::N2 => true,
-        Status::N3 => true,
-        Status::Busy {
-            stage: _,
-            word: _,
-            read_at: _,
-            tried_at: _,
-            answer: _,
-        } => true,
-    }
-}
-
 // Whether the byte is a crash of a process that is down by its record, or a wake of one that is awake (R226). A byte names
 // a process by four bits (R71), so there is a record for every byte.
 fn is_idle_key(processes: [Process; 16], byte: u8) -> bool
     ensures { result ≡ press.idle_key processes byte }
 {
-    let named = runfile::index8(byte % 16);
-    let process = processes[named];
-    let status = process.status;
-    runfile::is_idle(byte, is_awake(status))
+    let named = processes[usize::from(byte % 16)];
+    runfile::is_idle(byte, !matches!(named.status, Status::Down))
 }
 
 // Whether the record of one of the file's processes cannot be, for a file that is accepted (R231).
@@ -126,8 +102,8 @@ fn has_impossible(file: &[u8], header: Header, processes: [Process; 16]) -> bool
 {
     let rows_at = runfile::rows_start(header);
     let stride = runfile::stride_of(header);
-    let rows = runfile::index16(header.rows);
-    let present = runfile::index8(header.processes);
+    let rows = usize::from(header.rows);
+    let present = usize::from(header.processes);
     any_impossible(&file[rows_at..], stride, rows, processes, present)
 }
 

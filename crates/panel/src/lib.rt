@@ -15,7 +15,6 @@ ghost use Rattle.std.specs.Prelude.{◌≡◌};
 
 use machine::Process;
 use press::press;
-use records::{give, held, take};
 use run::Counts;
 
 // A key as it is struck: the byte, its position, and how many rows stand in the log and in the answers (R201).
@@ -89,12 +88,10 @@ pub fn key(
     ensures { Keyed file.now records.old words.old log.old answers.old key
         result records.new words.new log.new answers.new }
 {
-    let n = held(records.len());
-    let processes = take(records, n);
-    let table = Table { processes, held: n };
+    let table = Table::of(records);
     let left = press(file, table, words, log, answers, key)?;
     let processes = left.processes;
-    give(records, n, processes);
+    Table { processes, ..table }.give(records);
     Ok(Counts {
         log: left.log,
         answers: left.answers,

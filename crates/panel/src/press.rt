@@ -26,8 +26,8 @@ pub fn press(
     let processes = table.processes;
     let part = Part {
         stride: runfile::stride_of(header),
-        rows: runfile::index16(header.rows),
-        present: runfile::index8(header.processes),
+        rows: usize::from(header.rows),
+        present: usize::from(header.processes),
         from: Standing {
             processes,
             position: key.position,
@@ -35,7 +35,5 @@ pub fn press(
             answers: key.answers,
         },
     };
-    let bytes = [key.byte];
-    let left = engine::run_bytes(&file[rows_at..], &bytes, words, log, answers, part);
-    Ok(left)
+    Ok(engine::run_bytes(&file[rows_at..], &[key.byte], words, log, answers, part))
 }

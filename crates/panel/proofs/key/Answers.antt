@@ -8,9 +8,9 @@ returns-in_err-left c =
     let p = err_from_is_err_and c.from_residual.result c.from_residual.ensures.1 in
     rw (p.1, p.2)
     (joined_refused c.args.file.now c.args.records.now c.args.words.now c.args.log.now c.args.answers.now c.args.key
-    c.held-n.result _ _ _ _ _ c.held-n.ensures.0 c.held-n.ensures.2 c.take-processes.ensures c.in_err-left.ensures)
+    c.of-table.result _ _ _ _ c.of-table.ensures.held c.of-table.ensures.processes c.in_err-left.ensures)
 
 pub returns : goal.returns
 returns c =
     joined c.args.file.now c.args.records.now c.args.words.now c.args.log.now c.args.answers.now c.args.key
-    c.held-n.result _ c.in_ok-left.left _ _ _ _ c.held-n.ensures.0 c.take-processes.ensures c.in_ok-left.ensures c.give.ensures
+    c.of-table.result c.in_ok-left.left _ _ _ _ c.of-table.ensures.held c.of-table.ensures.processes c.in_ok-left.ensures c.give.ensures

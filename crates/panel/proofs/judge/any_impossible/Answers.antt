@@ -38,22 +38,20 @@ returns-then-is_impossible c =
     let e = first-at rows _ _ c.counts_of-counts.ensures c.firsts_of-firsts.ensures c.loop-p.p low in
     let q = c.counts_of-counts.ensures.each c.loop-p.p low in
     or_hit _ _ (sym (tested rows c.loop-p.p _ _ _ _ e q c.is_impossible.ensures) ∙ c.if-is_impossible.true)
-    ∙ sym (c.loop-p.invariant.1 ∙ any_turn rows _ c.loop-p.p _ c.loop-p-test.true)
+    ∙ sym (c.loop-p.invariant ∙ any_turn rows _ c.loop-p.p _ c.loop-p-test.true)
 
 pub loop-p-preserved : goal.loop-p-preserved
 loop-p-preserved c =
     let rows = rows_from c.args.stride c.args.table.now 0 c.args.n in
     let low : c.loop-p.p < 16 = omega (arith, c.requires.0) in
     let e = first-at rows _ _ c.counts_of-counts.ensures c.firsts_of-firsts.ensures c.loop-p.p low in
-    let q = c.counts_of-counts.ensures.each c.loop-p.p low in (
-      omega arith,
-      c.loop-p.invariant.1
-          ∙ any_turn rows _ c.loop-p.p _ c.loop-p-test.true
-          ∙ sym (or_miss _ _ _ (sym (tested rows c.loop-p.p _ _ _ _ e q c.is_impossible.ensures) ∙ c.if-is_impossible.false) refl),
-    )
+    let q = c.counts_of-counts.ensures.each c.loop-p.p low in
+    c.loop-p.invariant
+    ∙ any_turn rows _ c.loop-p.p _ (omega arith)
+    ∙ sym (or_miss _ _ _ (sym (tested rows c.loop-p.p _ _ _ _ e q c.is_impossible.ensures) ∙ c.if-is_impossible.false) refl)
 
 pub returns : goal.returns
 unfolding any_impossible
 returns c =
     let z : c.args.present - c.loop-p.p ≡ 0 = omega arith in
-    sym (c.loop-p.invariant.1 ∙ ap (any_impossible (rows_from c.args.stride c.args.table.now 0 c.args.n) c.args.processes c.loop-p.p) z)
+    sym (c.loop-p.invariant ∙ ap (any_impossible (rows_from c.args.stride c.args.table.now 0 c.args.n) c.args.processes c.loop-p.p) z)

@@ -20,7 +20,7 @@ found h f ps stride at n P b e q z i h' = rw (part_all f at, e, q, z, i, table-p
 
 pub any_impossible-requires : goal.any_impossible-requires
 any_impossible-requires c =
-    (rw c.index8-present.ensures.0 c.requires.head.processes, lined _ _ _ _ _ c.stride_of-stride.ensures.0 c.rows_start-rows_at.ensures.0 c.index16-rows.ensures.0 c.requires)
+    (rw c.from-present.ensures c.requires.head.processes, lined _ _ _ _ _ c.stride_of-stride.ensures.0 c.rows_start-rows_at.ensures.0 c.from-rows.ensures c.requires)
 
 pub returns : goal.returns
-returns c = found _ _ _ _ _ _ _ _ c.stride_of-stride.ensures.0 c.rows_start-rows_at.ensures.0 c.index16-rows.ensures.0 c.index8-present.ensures.0 c.any_impossible.ensures
+returns c = found _ _ _ _ _ _ _ _ c.stride_of-stride.ensures.0 c.rows_start-rows_at.ensures.0 c.from-rows.ensures c.from-present.ensures c.any_impossible.ensures

@@ -34,7 +34,7 @@ no_kind a b r o = rw o
 pub row_at-row-requires : goal.row_at-row-requires
 row_at-row-requires c =
     let k = inside c.args.first c.args.count c.args.process _ c.in-Some.is (sym c.misplaced.ensures ∙ c.if-misplaced.false) in
-    subst (λ (k : ℕ). HasRow c.args.stride c.args.table.now k) (sym c.index16.ensures.0) (has_row _ _ _ _ c.requires.0 c.requires.1 (omega arith))
+    has_row _ _ _ _ c.requires.0 c.requires.1 (omega arith)
 
 pub returns-in-None : goal.returns-in-None
 returns-in-None c = or_miss _ _ _ (sym c.misplaced.ensures ∙ c.if-misplaced.false) (c.misdone.ensures ∙ no_kind _ _ _ c.in-None.is)
@@ -46,5 +46,5 @@ returns-in-Some c =
     let k = inside b.first b.count b.process _ c.in-Some.is miss in
     or_miss _ _ _ miss
     (c.misdone-in-Some.ensures ∙ ap (λ kind. misdone kind b.process) c.kind_of.ensures ∙ ap (λ row. misdone (kind_of row) b.process)
-    (c.row_at-row.ensures ∙ ap (λ i. row_of_table b.stride b.table.now i) c.index16.ensures.0 ∙ row_is b.stride b.table.now b.n _ (omega arith)
+    (c.row_at-row.ensures ∙ ap (λ i. row_of_table b.stride b.table.now i) c.from.ensures ∙ row_is b.stride b.table.now b.n _ (omega arith)
     ∙ ap (λ o. row_numbered (rows_from b.stride b.table.now 0 b.n) (row_open o)) (sym c.in-Some.is)))

@@ -29,11 +29,11 @@ slice_bounds-run_bytes-start c =
     let e = rows_in _ _ _ _ _ ft _ c.rows_start-rows_at.ensures.0 in
     search rules
 
-pub run_bytes-left-requires : goal.run_bytes-left-requires
-run_bytes-left-requires c =
+pub run_bytes-requires : goal.run_bytes-requires
+run_bytes-requires c =
     let b = c.args in
     let ft = fit b.file.now b.table (room_of b.words.now b.log.now b.answers.now) b.key _ (sym c.in_ok-header.ensures) in
-    able_in _ _ (lent b.table.processes b.words.now b.log.now b.answers.now) _ ft _ _ _ _ c.stride_of.ensures.0 c.rows_start-rows_at.ensures.0 c.index16.ensures.0 c.index8.ensures.0
+    able_in _ _ (lent b.table.processes b.words.now b.log.now b.answers.now) _ ft _ _ _ _ c.stride_of.ensures.0 c.rows_start-rows_at.ensures.0 c.from.ensures c.from-2.ensures
 
 pub returns-in_err-header : goal.returns-in_err-header
 returns-in_err-header c =
@@ -46,4 +46,4 @@ returns c =
     let b = c.args in
     let ft = fit b.file.now b.table (room_of b.words.now b.log.now b.answers.now) b.key _ (sym c.in_ok-header.ensures) in
     was_fine b.file.now b.table b.words.now b.log.now b.answers.now b.key _ (sym c.in_ok-header.ensures) _ _ _ _ _
-    (went _ _ (lent b.table.processes b.words.now b.log.now b.answers.now) _ ft _ _ _ _ c.stride_of.ensures.0 c.rows_start-rows_at.ensures.0 c.index16.ensures.0 c.index8.ensures.0 _ _ _ _ c.run_bytes-left.ensures)
+    (went _ _ (lent b.table.processes b.words.now b.log.now b.answers.now) _ ft _ _ _ _ c.stride_of.ensures.0 c.rows_start-rows_at.ensures.0 c.from.ensures c.from-2.ensures _ _ _ _ c.run_bytes.ensures)
