@@ -1,6 +1,7 @@
 -- One key of the panel: refused, for the file, for what is lent, for the position and the records or for the byte (R220 to R232); or carried
 -- out as a byte of a run (R202).
-use Rattle.std.specs.Prelude.{ℕ, ◌+◌, ◌*◌, ◌≤◌, ◌≡◌, Bool, false, cond, List, ◌++◌, ltb, get_or, length, take, drop, Result, Ok, Err}
+use Rattle.std.specs.Prelude.{ℕ, ◌+◌, ◌*◌, ◌≤◌, ◌≡◌, Bool, false, cond, List, ◌++◌, ltb, get_or, length, take, drop, Result, Ok, Err, codes}
+use Rattle.std.specs.Fmt.{decimal}
 use Rattle.runfile.specs.declared.Header.{Header}
 use Rattle.runfile.specs.declared.Room.{Room}
 use Rattle.runfile.specs.declared.Refused.{Refused as FileRefused}
@@ -45,6 +46,10 @@ refuses why place = Err (record { why = why; place = place })
 -- where the file is not at fault, the place is 0 (R31)
 abbrev pub at_none : Why → Refused
 at_none why = record { why = why; place = 0 }
+
+-- as it is printed: its number, and its place (R195)
+abbrev pub refused_text : Refused → List ℕ
+refused_text r = codes "refused " ++ (decimal (number_of_why r.why) ++ (codes " " ++ decimal r.place))
 
 -- a refusal of the file is the key's (R221)
 abbrev pub of_file : FileRefused → Refused

@@ -26,7 +26,7 @@ processes_of processes (Ok left) = left.processes
 abbrev pub PressedOn : (file : List ℕ) → Table → (words log answers : List ℕ) → Stroke → Result Standing Refused → (words' log' answers' : List ℕ) → Type 0
 PressedOn file table words log answers key r = Leaves (pressed file table words log answers key) (outcome_of r) (processes_of table.processes r)
 
--- `why_number(why)`
+-- `u32::from(why)`
 abbrev pub WhyNumbered : Why → ℕ → Type 0
 WhyNumbered why r = r ≡ number_of_why why
 

@@ -9,9 +9,12 @@ mod possible;
 mod press;
 mod records;
 
-ghost use Rattle.panel.specs.Press.{of_file};
+ghost use Rattle.panel.specs.Press.{of_file, refused_text};
 ghost use Rattle.panel.specs.Promises.{Keyed, WhyNumbered};
-ghost use Rattle.std.specs.Prelude.{◌≡◌};
+ghost use Rattle.std.specs.Prelude.{◌≡◌, Some};
+
+use std::error::Error;
+use std::fmt;
 
 use machine::Process;
 use press::press;
@@ -38,6 +41,19 @@ pub enum Why {
     Key,
 }
 
+// The number of a refusal (R220).
+impl From<Why> for u32 {
+    ghost from_gives = { WhyNumbered };
+
+    fn from(why: Why) -> u32 {
+        match why {
+            Why::Run(refusal) => runfile::refusal_number(refusal),
+            Why::Record => 21,
+            Why::Key => 22,
+        }
+    }
+}
+
 // A key that is refused: why, and the place in the file (R203).
 #[derive(Clone, Copy, Debug, PartialEq, Eq)]
 pub struct Refused {
@@ -57,22 +73,24 @@ impl From<runfile::Refused> for Refused {
     }
 }
 
+// A refusal as it is printed: its number and its place (R195).
+impl fmt::Display for Refused {
+    ghost output = { λ r. Some (refused_text r) };
+
+    fn fmt<W: fmt::Write>(&self, f: &mut fmt::Formatter<W>) -> fmt::Result {
+        let number = u32::from(self.why);
+        let place = self.place;
+        write!(f, "refused {number} {place}")
+    }
+}
+
+impl Error for Refused {}
+
 // Sixteen records by value, of which the first `held` are the caller's.
 #[derive(Clone, Copy)]
 pub struct Table {
     pub processes: [Process; 16],
     pub held: usize,
-}
-
-// The number of a refusal (R220).
-pub fn why_number(why: Why) -> u32
-    ensures { WhyNumbered why result }
-{
-    match why {
-        Why::Run(refusal) => runfile::refusal_number(refusal),
-        Why::Record => 21,
-        Why::Key => 22,
-    }
 }
 
 // One key over the lent records: of more than sixteen only the first sixteen are looked at (R205, R306). It comes to the
