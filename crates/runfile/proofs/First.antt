@@ -1,12 +1,13 @@
 -- A loop that looks for the first offender, in the loop's own terms: before turn i the search from i on is the whole search.
 -- Said of any search (`Left`, for one in whose turns another search runs) and of one that asks a test at each number (`From`).
-use mathlib.Core.Path.{◌≡◌, ap}
+use mathlib.Core.Path.{◌≡◌, ap, sym}
 use mathlib.Core.Bool.{Bool, true, false}
 use Prim.Native.Nat.{ℕ, suc, ◌+◌, ◌-◌, ◌≤◌, ◌<◌}
 use native.Mathlib.Numerals.{add-one}
 use native.Mathlib.Omega.{arith}
-use Rattle.std.specs.Prelude.{Option, Some, None}
+use Rattle.std.specs.Prelude.{Option, Some, None, option_map, MatchOption}
 use Rattle.runfile.specs.Refusals.{first_found, found_if, first_offender}
+use Rattle.runfile.specs.Searches.{found_none, found_earliest}
 use Rattle.runfile.specs.Format.{within}
 use Rattle.runfile.specs.Layout.{row_place}
 
@@ -32,6 +33,22 @@ module _ (finds : ℕ → Option ℕ) (n : ℕ) where
 
   pub none_left : (i : ℕ) (all : Option ℕ) → n ≤ i → Left i ≡ all → None ≡ all
   none_left i all h e = let z : n - i ≡ 0 = omega arith in rw z at e
+
+-- what a library's search over the numbers lo, .., hi - 1 answers, and the place of it, is what the first offender among them is
+module _ (place : ℕ → ℕ) (offends : ℕ → Bool) (lo hi n : ℕ) (size : n ≡ hi - lo) where
+  pub first_in : (r : Option ℕ)
+      → MatchOption r ((k : ℕ) → lo ≤ k → k < hi → offends k ≡ false)
+      (λ i. (lo ≤ i) × (i < hi) × (offends i ≡ true) × ((k : ℕ) → lo ≤ k → k < i → offends k ≡ false))
+      → option_map place r ≡ first_offender place offends lo n
+  first_in None none = sym (found_none (λ k. found_if (offends k) (place k)) lo n (λ j a b. rw (none j a (omega arith))))
+  first_in (Some i) here =
+      sym
+      (found_earliest
+      (λ k. found_if (offends k) (place k))
+      lo
+      n
+      (place i)
+      (record { which = i; after = here.0; within = let a = here.0 in let b = here.1 in omega arith; found = rw here.2; none_before = λ j a b. rw (here.3 j a b) }))
 
 module _ (place : ℕ → ℕ) (offends : ℕ → Bool) (n : ℕ) where
   abbrev tested : ℕ → Option ℕ

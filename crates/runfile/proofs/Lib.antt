@@ -4,6 +4,7 @@ pub mod Below
 pub mod Bytes
 pub mod Tables
 pub mod Idle
+pub mod Numbers
 pub mod Lawful
 pub mod Exactly
 pub mod Promises

@@ -1,7 +1,8 @@
 -- What depends on the version of a file: the sizes of header, word and row, and the longest file, by the version (R2, R6, R7, R9); where a row's
 -- fields stand, by the row's size (R10). All other definitions take these numbers from here, and the code takes them from src/format.rt.
 use Rattle.std.specs.Prelude.{ℕ, zero, suc, ◌+◌, ◌*◌, ◌-◌, ◌≤◌, ◌<◌, ◌≡◌, refl, ◌⊎◌, Bool, true, false, cond, eqb}
-use Rattle.std.proofs.Common.{inl, inr, eq-eqb, ne_eqb, mul-le-mul_right, suc-mul, arith}
+use Rattle.std.proofs.Props.{props}
+use Rattle.std.proofs.Common.{ap, inl, inr, eq-eqb, ne_eqb, mul-le-mul_right, suc-mul, arith}
 use Rattle.runfile.specs.declared.Field.{Field}
 use Rattle.runfile.specs.declared.Field.TheVariants.{Process, Kind, Word, ZeroByte, Old, New}
 
@@ -42,6 +43,16 @@ pub record RowSize (size : ℕ) : Type 0 where
   pub old_fits : 4 + number_size size ≤ new_place size
   pub new_fits : new_place size + number_size size ≤ size
   pub new_within : new_place size < size
+
+-- a size is one of the two in one way, so a struct may keep that it is
+one_of_prop : (size : ℕ) → IsProp ((size ≡ 8) ⊎ (size ≡ 12))
+one_of_prop size (inl a) (inl b) = ap inl (let p : IsProp (size ≡ 8) = hlevel props in p a b)
+one_of_prop size (inl a) (inr b) = absurd (omega arith)
+one_of_prop size (inr a) (inl b) = absurd (omega arith)
+one_of_prop size (inr a) (inr b) = ap inr (let p : IsProp (size ≡ 12) = hlevel props in p a b)
+
+pub RowSize-prop : (size : ℕ) → IsProp (RowSize size)
+RowSize-prop size = hlevel (props, one_of_prop size)
 
 pub row-narrow : RowSize 8
 unfolding number_size new_place

@@ -1,6 +1,6 @@
 -- Where the parts of a run file stand, and their fields (R1 to R8, R10).
 -- A file is the list of its bytes. Everything here is total: a byte past the end counts as 0.
-use Rattle.std.specs.Prelude.{ℕ, ◌+◌, ◌*◌, ◌/◌, ◌%◌, ◌≤◌, Bool, cond, ◌&&◌, List, eqb, get_or, length, drop}
+use Rattle.std.specs.Prelude.{ℕ, ◌+◌, ◌*◌, ◌/◌, ◌%◌, ◌≤◌, ◌≡◌, Bool, cond, ◌&&◌, List, eqb, get_or, length, drop}
 use Rattle.runfile.specs.declared.Header.{Header}
 use Rattle.runfile.specs.declared.Row.{Row}
 use Rattle.runfile.specs.Format.{head_size, word_size, row_size, RowSize, new_place}
@@ -46,6 +46,13 @@ stride_of h = row_size h.version
 
 abbrev pub row_place : ℕ → ℕ → ℕ → ℕ
 row_place stride start k = start + k * stride
+
+-- the rows of the file f with this header are those of g, with a row every so many bytes from a place on
+pub record RowsOf (h : Header) (f g : List ℕ) (start stride count : ℕ) : Type 0 where
+  pub bytes : g ≡ f
+  pub begins : start ≡ rows_start h
+  pub each : stride ≡ stride_of h
+  pub all : count ≡ h.rows
 
 -- old or new of a row; and the fields of the row at a place (R10)
 unfoldable pub number_at : ℕ → List ℕ → ℕ → ℕ

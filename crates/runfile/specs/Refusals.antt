@@ -1,6 +1,7 @@
 -- What is refused, as a computation (R30 to R56). `found` is the table, a line for each refusal; Table.antt says the same in propositions,
 -- and proofs/Exactly.antt proves that the two agree.
-use Rattle.std.specs.Prelude.{ℕ, zero, suc, ◌+◌, ◌*◌, ◌-◌, Bool, true, false, not, ◌&&◌, ◌||◌, List, [], ◌∷◌, ◌++◌, leb, ltb, eqb, get_or, length, take, Option, Some, None, Result, Ok, Err}
+use Rattle.std.specs.Prelude.{ℕ, zero, suc, ◌+◌, ◌*◌, ◌-◌, Bool, true, false, not, ◌&&◌, ◌||◌, List, [], ◌∷◌, ◌++◌, leb, ltb, eqb, get_or, length, take, Option, Some, None, Result, Ok, Err, codes}
+use Rattle.std.specs.Fmt.{decimal}
 use Rattle.runfile.specs.declared.Header.{Header}
 use Rattle.runfile.specs.declared.Row.{Row}
 use Rattle.runfile.specs.declared.Kind.{Kind}
@@ -164,6 +165,10 @@ found h f room refusal.AnswersRoom = whole (ltb room.answers (5 * h.steps))
 -- the checks in order, each over the whole file: the first that finds something decides (R32, R33)
 abbrev pub refused : Refusal → ℕ → Result Header Refused
 refused why at = Err (record { why = why; place = at })
+
+-- as it is printed: its number, and its place (R195)
+abbrev pub refused_text : Refused → List ℕ
+refused_text r = codes "refused " ++ (decimal (number_of r.why) ++ (codes " " ++ decimal r.place))
 
 abbrev pub or_else : Refusal → Option ℕ → Result Header Refused → Result Header Refused
 or_else why (Some place) later = refused why place

@@ -6,18 +6,20 @@ ghost use Rattle.runfile.specs.Promises.{KindRead};
 use super::{Kind, Row};
 
 // Kind 0 reads, kind 2 advances (R11); a number that is no kind's is refused under 9 (R49b), and goes with 1 elsewhere.
-pub fn kind_numbered(number: u8) -> Kind
-    ensures { result ≡ kind_numbered number }
-{
-    match number {
-        0 => Kind::Read,
-        2 => Kind::Advance,
-        _ => Kind::Compare,
+impl From<u8> for Kind {
+    ghost from_gives = { λ number kind. kind ≡ kind_numbered number };
+
+    fn from(number: u8) -> Kind {
+        match number {
+            0 => Kind::Read,
+            2 => Kind::Advance,
+            _ => Kind::Compare,
+        }
     }
 }
 
 pub fn kind_of(row: Row) -> Kind
     ensures { KindRead row result }
 {
-    kind_numbered(row.kind)
+    Kind::from(row.kind)
 }

@@ -6,25 +6,29 @@
 
 mod format;
 mod kinds;
-mod offends;
 mod read;
+mod rows;
+mod schedule;
 mod shares;
 
-ghost use Rattle.std.specs.Prelude.{◌≡◌, List, ℕ, ◌≤◌, length};
+ghost use Rattle.std.specs.Prelude.{◌≡◌, List, ℕ, ◌≤◌, Some, length};
 ghost use Rattle.runfile.specs.Format.{least_head, longest_of_all};
 ghost use Rattle.runfile.specs.Layout.{length_given};
-ghost use Rattle.runfile.specs.Refusals.{unknown_version, out_of_range, first_of, found, no_room, count_checks, head_checks, body_checks, room_checks};
+ghost use Rattle.runfile.specs.Refusals.{refused_text, unknown_version, out_of_range, first_of, found, no_room, count_checks, head_checks, body_checks, room_checks};
 ghost use Rattle.runfile.specs.Promises.{Decides, DecidesFile, Numbers};
 
 pub use kinds::kind_of;
-use offends::{first_bad_byte, first_bad_field, first_below, first_idle, first_same};
-pub use offends::{is_bad_byte, is_idle};
 use read::{has_mark, header_of, length_given};
 pub use read::{
     header_or_zeros, index8, index16, row_at, rows_start, schedule_start, stride_of, u32_at,
     word_at, word_of_row,
 };
+use rows::Rows;
+use schedule::{first_bad_byte, first_idle};
+pub use schedule::{is_bad_byte, is_idle};
 pub use shares::{counts_of, firsts_of};
+use std::error::Error;
+use std::fmt;
 
 // One byte more than the longest file has (R9). So many bytes of any file decide what it comes to (R35, specs/Enough).
 pub const ENOUGH_BYTES: usize = 7308;
@@ -76,7 +80,7 @@ pub struct Room {
     pub answers: usize,
 }
 
-// The refusals in the order of their checks (R32); `refusal_number` gives the numbers.
+// The refusals in the order of their checks (R32); as a `u32` each is its number.
 #[derive(Clone, Copy, Debug, PartialEq, Eq)]
 pub enum Refusal {
     Short,
@@ -104,48 +108,72 @@ pub struct Refused {
     pub place: usize,
 }
 
+impl Refused {
+    // Where the file or a buffer is wrong as a whole, the place is 0 (R31).
+    fn whole(why: Refusal) -> Refused
+        ensures { result ≡ record { why = why; place = 0 } }
+    {
+        Refused { why, place: 0 }
+    }
+}
+
 // The number of a refusal (R41 to R56).
+impl From<Refusal> for u32 {
+    ghost from_gives = { Numbers };
+
+    fn from(why: Refusal) -> u32 {
+        match why {
+            Refusal::Short => 1,
+            Refusal::Mark => 2,
+            Refusal::Version => 3,
+            Refusal::Processes => 4,
+            Refusal::Words => 5,
+            Refusal::Rows => 6,
+            Refusal::Steps => 7,
+            Refusal::Length => 8,
+            Refusal::Row => 9,
+            Refusal::Order => 10,
+            Refusal::Same => 11,
+            Refusal::Action => 12,
+            Refusal::Idle => 16,
+            Refusal::WordsRoom => 13,
+            Refusal::LogRoom => 14,
+            Refusal::AnswersRoom => 15,
+        }
+    }
+}
+
 pub fn refusal_number(why: Refusal) -> u32
     ensures { Numbers why result }
 {
-    match why {
-        Refusal::Short => 1,
-        Refusal::Mark => 2,
-        Refusal::Version => 3,
-        Refusal::Processes => 4,
-        Refusal::Words => 5,
-        Refusal::Rows => 6,
-        Refusal::Steps => 7,
-        Refusal::Length => 8,
-        Refusal::Row => 9,
-        Refusal::Order => 10,
-        Refusal::Same => 11,
-        Refusal::Action => 12,
-        Refusal::Idle => 16,
-        Refusal::WordsRoom => 13,
-        Refusal::LogRoom => 14,
-        Refusal::AnswersRoom => 15,
+    u32::from(why)
+}
+
+// A refusal as it is printed: its number and its place (R195).
+impl fmt::Display for Refused {
+    ghost output = { λ r. Some (refused_text r) };
+
+    fn fmt<W: fmt::Write>(&self, f: &mut fmt::Formatter<W>) -> fmt::Result {
+        let number = u32::from(self.why);
+        let place = self.place;
+        write!(f, "refused {number} {place}")
     }
 }
+
+impl Error for Refused {}
 
 // The versions are 1 and 2 (R43).
 fn is_unknown(version: u16) -> bool
     ensures { result ≡ unknown_version version }
 {
-    if version == 1 {
-        return false;
-    }
-    version != 2
+    !matches!(version, 1 | 2)
 }
 
 // P and W may be 1 to 16 (R44, R45).
 fn is_out_of_range(count: u8) -> bool
     ensures { result ≡ out_of_range count }
 {
-    if count == 0 {
-        return true;
-    }
-    count > 16
+    !(1..=16).contains(&count)
 }
 
 // Refusals 3 to 7: what the header counts (R43 to R47).
@@ -153,34 +181,19 @@ fn check_counts(header: Header) -> Result<Header, Refused>
     ensures { (f : List ℕ) → result ≡ first_of (found header f no_room) count_checks header }
 {
     if is_unknown(header.version) {
-        return Err(Refused {
-            why: Refusal::Version,
-            place: 0,
-        });
+        return Err(Refused::whole(Refusal::Version));
     }
     if is_out_of_range(header.processes) {
-        return Err(Refused {
-            why: Refusal::Processes,
-            place: 0,
-        });
+        return Err(Refused::whole(Refusal::Processes));
     }
     if is_out_of_range(header.words) {
-        return Err(Refused {
-            why: Refusal::Words,
-            place: 0,
-        });
+        return Err(Refused::whole(Refusal::Words));
     }
     if header.rows > 512 {
-        return Err(Refused {
-            why: Refusal::Rows,
-            place: 0,
-        });
+        return Err(Refused::whole(Refusal::Rows));
     }
     if header.steps > 1024 {
-        return Err(Refused {
-            why: Refusal::Steps,
-            place: 0,
-        });
+        return Err(Refused::whole(Refusal::Steps));
     }
     Ok(header)
 }
@@ -191,17 +204,11 @@ fn check_head(file: &[u8], header: Header) -> Result<Header, Refused>
     ensures { result ≡ first_of (found header file.now no_room) head_checks header }
 {
     if !has_mark(file) {
-        return Err(Refused {
-            why: Refusal::Mark,
-            place: 0,
-        });
+        return Err(Refused::whole(Refusal::Mark));
     }
     check_counts(header)?;
     if file.len() != length_given(header) {
-        return Err(Refused {
-            why: Refusal::Length,
-            place: 0,
-        });
+        return Err(Refused::whole(Refusal::Length));
     }
     Ok(header)
 }
@@ -211,22 +218,20 @@ fn check_body(file: &[u8], header: Header) -> Result<Header, Refused>
     requires { (length file.now ≡ length_given header) × (length file.now ≤ longest_of_all) }
     ensures { result ≡ first_of (found header file.now no_room) body_checks header }
 {
-    let rows_at = rows_start(header);
-    let stride = stride_of(header);
-    let rows = index16(header.rows);
-    if let Some(place) = first_bad_field(file, rows_at, stride, rows, header) {
+    let rows = Rows::of(file, header);
+    if let Some(place) = rows.first_bad_field(header) {
         return Err(Refused {
             why: Refusal::Row,
             place,
         });
     }
-    if let Some(place) = first_below(file, rows_at, stride, rows) {
+    if let Some(place) = rows.first_below() {
         return Err(Refused {
             why: Refusal::Order,
             place,
         });
     }
-    if let Some(place) = first_same(file, rows_at, stride, rows) {
+    if let Some(place) = rows.first_same() {
         return Err(Refused {
             why: Refusal::Same,
             place,
@@ -248,10 +253,7 @@ pub fn check_file(file: &[u8]) -> Result<Header, Refused>
     ensures { DecidesFile file.now result }
 {
     if file.len() < 11 {
-        return Err(Refused {
-            why: Refusal::Short,
-            place: 0,
-        });
+        return Err(Refused::whole(Refusal::Short));
     }
     let header = header_of(file);
     check_head(file, header)?;
@@ -262,24 +264,15 @@ pub fn check_file(file: &[u8]) -> Result<Header, Refused>
 fn check_room(header: Header, room: Room) -> Result<Header, Refused>
     ensures { (f : List ℕ) → result ≡ first_of (found header f room) room_checks header }
 {
-    let rows_room = 5 * index16(header.steps);
-    if room.words < index8(header.words) {
-        return Err(Refused {
-            why: Refusal::WordsRoom,
-            place: 0,
-        });
+    let rows_room = 5 * usize::from(header.steps);
+    if room.words < usize::from(header.words) {
+        return Err(Refused::whole(Refusal::WordsRoom));
     }
     if room.log < rows_room {
-        return Err(Refused {
-            why: Refusal::LogRoom,
-            place: 0,
-        });
+        return Err(Refused::whole(Refusal::LogRoom));
     }
     if room.answers < rows_room {
-        return Err(Refused {
-            why: Refusal::AnswersRoom,
-            place: 0,
-        });
+        return Err(Refused::whole(Refusal::AnswersRoom));
     }
     Ok(header)
 }

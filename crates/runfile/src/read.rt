@@ -1,5 +1,5 @@
 // Numbers of several bytes, lowest byte first (R1), the header by value, and where the parts begin that it gives (R2, R6 to R8).
-ghost use Rattle.std.specs.Prelude.{◌≡◌, ◌+◌, ◌*◌, ◌≤◌, ◌<◌, length};
+ghost use Rattle.std.specs.Prelude.{◌≡◌, ◌+◌, ◌*◌, ◌≤◌, ◌<◌, length, take, drop};
 ghost use Rattle.runfile.specs.Format.{least_head, number_size, RowSize};
 ghost use Rattle.runfile.specs.Layout.{u16_at, u64_at, widened, number_at, row_of_table, HasRow, marked, header_in, word_place, length_given};
 ghost use Rattle.runfile.specs.Promises.{Index8, Index16, FourBytes, RowRead, RowWord, HeaderOrZeros, StartWord, Stride, RowsStart, ScheduleStart};
@@ -7,68 +7,49 @@ ghost use Rattle.runfile.specs.Promises.{Index8, Index16, FourBytes, RowRead, Ro
 use super::format::{head_size, new_place, row_size, word_size};
 use super::{Header, Row};
 
-// A byte or a number of two bytes, widened: nothing is lost, and the bound goes with it.
-pub fn wide8(x: u8) -> u16
-    ensures { (result ≡ x) × (result < 256) }
-{
-    x as u16
-}
-
 pub fn index8(x: u8) -> usize
     ensures { Index8 x result }
 {
-    x as usize
+    usize::from(x)
 }
 
 pub fn index16(x: u16) -> usize
     ensures { Index16 x result }
 {
-    x as usize
+    usize::from(x)
 }
 
-// A number of two bytes, low byte first.
+// N bytes from a place on.
+fn bytes_at<const N: usize>(file: &[u8], at: usize) -> [u8; N]
+    requires { at + N ≤ length file.now }
+    ensures { result ≡ take N (drop at file.now) }
+{
+    file[at..at + N].try_into().unwrap()
+}
+
+// Numbers of two, of four and of eight bytes, low byte first.
+#[tactic(auto, using(crate::proofs::Numbers::two_bytes))]
 pub fn u16_at(file: &[u8], at: usize) -> u16
     requires { at + 2 ≤ length file.now }
     ensures { result ≡ u16_at file.now at }
 {
-    wide8(file[at]) + wide8(file[at + 1]) * 256
+    u16::from_le_bytes(bytes_at(file, at))
 }
 
-fn wide32(x: u8) -> u32
-    ensures { (result ≡ x) × (result < 256) }
-{
-    x as u32
-}
-
-// A number of four bytes, low byte first.
+#[tactic(auto, using(crate::proofs::Numbers::four_bytes))]
 pub fn u32_at(file: &[u8], at: usize) -> u32
     requires { at + 4 ≤ length file.now }
     ensures { FourBytes file.now at result }
 {
-    wide32(file[at])
-        + wide32(file[at + 1]) * 256
-        + wide32(file[at + 2]) * 65536
-        + wide32(file[at + 3]) * 16777216
+    u32::from_le_bytes(bytes_at(file, at))
 }
 
-fn wide64(x: u32) -> u64
-    ensures { (result ≡ x) × (result < 4294967296) }
-{
-    x as u64
-}
-
-// A number of eight bytes, low byte first.
+#[tactic(auto, using(crate::proofs::Numbers::eight_bytes))]
 pub fn u64_at(file: &[u8], at: usize) -> u64
     requires { at + 8 ≤ length file.now }
     ensures { result ≡ u64_at file.now at }
 {
-    wide64(u32_at(file, at)) + wide64(u32_at(file, at + 4)) * 4294967296
-}
-
-fn wide16(x: u16) -> u32
-    ensures { result ≡ x }
-{
-    x as u32
+    u64::from_le_bytes(bytes_at(file, at))
 }
 
 // Old or new of a row of this size.
@@ -77,7 +58,7 @@ pub fn number_at(file: &[u8], at: usize, stride: usize) -> u32
     ensures { result ≡ number_at stride file.now at }
 {
     if stride == 8 {
-        return wide16(u16_at(file, at));
+        return u32::from(u16_at(file, at));
     }
     u32_at(file, at)
 }
@@ -115,17 +96,12 @@ pub fn word_of_row(table: &[u8], stride: usize, k: usize) -> u8
     table[at]
 }
 
+#[tactic(auto, using(crate::proofs::Numbers::mark_stands))]
 pub fn has_mark(file: &[u8]) -> bool
     requires { least_head ≤ length file.now }
     ensures { result ≡ marked file.now }
 {
-    if file[0] != b'S' {
-        return false;
-    }
-    if file[1] != b'W' {
-        return false;
-    }
-    file[2] == b'R'
+    file.starts_with(b"SWR")
 }
 
 pub fn header_of(file: &[u8]) -> Header
@@ -158,10 +134,11 @@ pub fn header_or_zeros(file: &[u8]) -> Header
 }
 
 // A word of version 1, widened: the value stays in front, and the flip bits move up behind 32 bits of value (R6).
+#[tactic(auto, unfolding(crate::specs::Layout::widened))]
 fn widen(word: u32) -> u64
     ensures { result ≡ widened word }
 {
-    wide64(word % 65536) + wide64(word / 65536) * 4294967296
+    u64::from(word % 65536) + u64::from(word / 65536) * 4294967296
 }
 
 // The start word i.
@@ -185,17 +162,17 @@ pub fn stride_of(header: Header) -> usize
 pub fn rows_start(header: Header) -> usize
     ensures { RowsStart header result }
 {
-    head_size(header.version) + index8(header.words) * word_size(header.version)
+    head_size(header.version) + usize::from(header.words) * word_size(header.version)
 }
 
 pub fn schedule_start(header: Header) -> usize
     ensures { ScheduleStart header result }
 {
-    rows_start(header) + index16(header.rows) * stride_of(header)
+    rows_start(header) + usize::from(header.rows) * stride_of(header)
 }
 
 pub fn length_given(header: Header) -> usize
     ensures { result ≡ length_given header }
 {
-    schedule_start(header) + index16(header.steps)
+    schedule_start(header) + usize::from(header.steps)
 }

@@ -3,7 +3,7 @@ ghost use Rattle.std.specs.Prelude.{◌<◌};
 ghost use Rattle.runfile.specs.Operations.{rows_from};
 ghost use Rattle.runfile.specs.Shares.{Lined, Counted, Summed, sum_to};
 
-use super::read::{index8, process_of_row};
+use super::read::process_of_row;
 
 // How many rows each process has.
 pub fn counts_of(table: &[u8], stride: usize, rows: usize) -> [u16; 16]
@@ -11,11 +11,9 @@ pub fn counts_of(table: &[u8], stride: usize, rows: usize) -> [u16; 16]
     ensures { Counted (rows_from stride table.now 0 rows) result }
 {
     let mut counts = [0u16; 16];
-    let mut k = 0;
-    while k < rows {
-        let p = index8(process_of_row(table, stride, k));
-        counts[p] = counts[p] + 1;
-        k += 1;
+    for k in 0..rows {
+        let p = usize::from(process_of_row(table, stride, k));
+        counts[p] += 1;
     }
     counts
 }
@@ -27,11 +25,9 @@ pub fn firsts_of(counts: [u16; 16]) -> [u16; 16]
 {
     let mut firsts = [0u16; 16];
     let mut sum = 0;
-    let mut p = 0;
-    while p < 16 {
+    for p in 0..16 {
         firsts[p] = sum;
-        sum = sum + counts[p];
-        p += 1;
+        sum += counts[p];
     }
     firsts
 }

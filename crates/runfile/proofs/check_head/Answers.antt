@@ -18,7 +18,7 @@ pub returns-then-file-length_given : goal.returns-then-file-length_given
 returns-then-file-length_given c =
     let finds = found c.args.header c.args.file.now no_room in
     let is_marked = sym c.has_mark.ensures ∙ c.if-not-has_mark.false in
-    sym (rw (is_marked, passes finds _ count_checks (refusal.Length ∷ []) _ (sym (c.in_ok-check_counts.ensures c.args.file.now)), ne_eqb _ _ (rw c.length_given.ensures at c.if-file-length_given.true)))
+    rw c.whole-then-file-length_given.ensures (sym (rw (is_marked, passes finds _ count_checks (refusal.Length ∷ []) _ (sym (c.in_ok-check_counts.ensures c.args.file.now)), ne_eqb _ _ (rw c.length_given.ensures at c.if-file-length_given.true))))
 
 pub returns : goal.returns
 returns c =

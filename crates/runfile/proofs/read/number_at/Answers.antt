@@ -10,7 +10,7 @@ u16_at-requires c = let n = number-narrow _ c.if-stride-eq8.true in omega arith
 
 pub returns-then-stride-eq8 : goal.returns-then-stride-eq8
 unfolding number_at
-returns-then-stride-eq8 c = simp (c.wide16.ensures, c.u16_at.ensures, eq-eqb _ _ c.if-stride-eq8.true)
+returns-then-stride-eq8 c = simp (c.from.ensures, c.u16_at.ensures, eq-eqb _ _ c.if-stride-eq8.true)
 
 pub u32_at-requires : goal.u32_at-requires
 u32_at-requires c = let n = number_wide _ c.if-stride-eq8.false in omega arith

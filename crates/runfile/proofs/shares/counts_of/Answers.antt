@@ -4,27 +4,26 @@ use native.Mathlib.Omega.{arith}
 use mathlib.Core.Path.{refl, ◌∙◌}
 use Rattle.runfile.specs.Operations.{rows_from, count}
 use Prim.Native.Nat.{◌<◌}
-use borrow.Author.Rules.{rules}
 use Rattle.runfile.proofs.shares.counts_of.Goals as goal
 
 pub loop-k-init : goal.loop-k-init
 unfolding count rows_from
-loop-k-init c = (search rules, record { size = refl; each = λ p l. zeros 16 p })
+loop-k-init c = record { size = refl; each = λ p l. zeros 16 p }
 
 pub overflow_add-counts : goal.overflow_add-counts
 overflow_add-counts c =
     let a = c.args in
     let l = c.loop-k in
     -- what is read is the row's process, and so an index of the table
-    let named = c.index8-p.ensures.0 ∙ c.process_of_row.ensures in
-    let small : c.index8-p.result < 16 = rw named (c.requires.processes l.k c.loop-k-test.true) in
-    let f = few a.stride a.table.now l.k l.counts l.invariant.1 c.index8-p.result named small in
+    let named = c.from-p.ensures ∙ c.process_of_row.ensures in
+    let small : c.from-p.result < 16 = rw named (c.requires.processes l.k c.loop-k-test.true) in
+    let f = few a.stride a.table.now l.k l.counts l.invariant c.from-p.result named small in
     omega arith
 
 pub loop-k-preserved : goal.loop-k-preserved
 loop-k-preserved c =
     let a = c.args in
     let l = c.loop-k in
-    let named = c.index8-p.ensures.0 ∙ c.process_of_row.ensures in
-    let small : c.index8-p.result < 16 = rw named (c.requires.processes l.k c.loop-k-test.true) in
-    (search rules, counted_next a.stride a.table.now l.k l.counts l.invariant.1 c.index8-p.result named small)
+    let named = c.from-p.ensures ∙ c.process_of_row.ensures in
+    let small : c.from-p.result < 16 = rw named (c.requires.processes l.k c.loop-k-test.true) in
+    counted_next a.stride a.table.now l.k l.counts l.invariant c.from-p.result named small

@@ -4,7 +4,7 @@ use Rattle.runfile.specs.Refusals.{bad_byte}
 use native.Mathlib.Omega.{arith}
 use Prim.Native.Nat.{◌/◌, ◌%◌}
 use mathlib.Core.Path.{sym}
-use Rattle.runfile.proofs.offends.is_bad_byte.Goals as goal
+use Rattle.runfile.proofs.schedule.is_bad_byte.Goals as goal
 
 pub returns-in-0-to-2 : goal.returns-in-0-to-2
 unfolding bad_byte

@@ -1,7 +1,7 @@
 -- `is_bad_field` meets its contract: the match has the line of each field.
 use Rattle.runfile.specs.Layout.{row_at}
 use Rattle.runfile.specs.Refusals.{bad_field}
-use Rattle.runfile.proofs.offends.is_bad_field.Goals as goal
+use Rattle.runfile.proofs.rows.Rows.is_bad_field.Goals as goal
 
 pub returns-in-Process : goal.returns-in-Process
 unfolding bad_field row_at
@@ -21,8 +21,8 @@ returns-in-ZeroByte c = simp c.in-ZeroByte.is
 
 pub returns-in-Old : goal.returns-in-Old
 unfolding bad_field row_at
-returns-in-Old c = simp (c.is_bad_number.ensures, c.has_zero_old-zero.ensures, c.kind_numbered.ensures, c.in-Old.is)
+returns-in-Old c = simp (c.is_bad_number.ensures, c.has_zero_old-zero.ensures, c.from.ensures, c.in-Old.is)
 
 pub returns-in-New : goal.returns-in-New
 unfolding bad_field row_at
-returns-in-New c = simp (c.is_bad_number-in-New.ensures, c.new_place.ensures.0, c.has_zero_new-zero.ensures, c.kind_numbered-in-New.ensures, c.in-New.is)
+returns-in-New c = simp (c.is_bad_number-in-New.ensures, c.new_place.ensures.0, c.has_zero_new-zero.ensures, c.from-in-New.ensures, c.in-New.is)
