@@ -1,6 +1,6 @@
 -- The contracts of the public functions, and that each leaves no second outcome. A contract of one equation, or of one with a bound beside it for the
 -- caller's arithmetic, is that under a name, so that a caller rewrites with it as it stands.
-use Rattle.std.specs.Prelude.{ℕ, ◌<◌, ◌≡◌, Bool, cond, List, ltb, length, Result}
+use Rattle.std.specs.Prelude.{ℕ, ◌<◌, ◌≡◌, Bool, cond, List, ltb, length, drop, Result}
 use Rattle.std.proofs.Common.{sym, ◌∙◌}
 use Rattle.runfile.specs.declared.Room.{Room}
 use Rattle.runfile.specs.declared.Row.{Row}
@@ -42,7 +42,14 @@ numbers_one why r q a b = a.result ∙ sym b.result
 abbrev pub KindRead : (row : Row) (r : Kind) → Type 0
 KindRead row r = r ≡ kind_of row
 
--- `row_at(table, stride, k)`, and `word_of_row(table, stride, k)`
+-- `Operations::of(file, header)`: the table, from its first row to the file's end, the bytes from one row to the next, and how many rows there are
+pub record RowsLent (h : Header) (f table : List ℕ) (stride count : ℕ) : Type 0 where
+  pub table_is : table ≡ drop (rows_start h) f
+  pub stride_is : stride ≡ stride_of h
+  pub size : RowSize stride
+  pub count_is : count ≡ h.rows
+
+-- `operations.row(k)`, and `operations.word(k)`
 abbrev pub RowRead : (stride : ℕ) (table : List ℕ) (k : ℕ) (r : Row) → Type 0
 RowRead stride table k r = r ≡ row_of_table stride table k
 
@@ -90,6 +97,9 @@ IdleJudged byte up r = r ≡ idle_by (action byte) up
 
 pub kind_read_one : (row : Row) (r q : Kind) → KindRead row r → KindRead row q → r ≡ q
 kind_read_one row r q a b = a ∙ sym b
+
+pub rows_lent_one : (h : Header) (f t u : List ℕ) (x y n m : ℕ) → RowsLent h f t x n → RowsLent h f u y m → (t ≡ u) × (x ≡ y) × (n ≡ m)
+rows_lent_one h f t u x y n m a b = (a.table_is ∙ sym b.table_is, a.stride_is ∙ sym b.stride_is, a.count_is ∙ sym b.count_is)
 
 pub row_read_one : (stride : ℕ) (table : List ℕ) (k : ℕ) (r q : Row) → RowRead stride table k r → RowRead stride table k q → r ≡ q
 row_read_one stride table k r q a b = a ∙ sym b

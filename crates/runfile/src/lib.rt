@@ -6,10 +6,10 @@
 
 mod format;
 mod kinds;
+mod operations;
 mod read;
 mod rows;
 mod schedule;
-mod shares;
 
 ghost use Rattle.std.specs.Prelude.{◌≡◌, List, ℕ, ◌≤◌, Some, length};
 ghost use Rattle.runfile.specs.Format.{least_head, longest_of_all};
@@ -19,14 +19,13 @@ ghost use Rattle.runfile.specs.Promises.{Decides, DecidesFile, Numbers};
 
 pub use kinds::kind_of;
 use read::{has_mark, header_of, length_given};
+pub use operations::{Operations, firsts_of};
 pub use read::{
-    header_or_zeros, index8, index16, row_at, rows_start, schedule_start, stride_of, u32_at,
-    word_at, word_of_row,
+    header_or_zeros, index8, index16, rows_start, schedule_start, stride_of, u32_at, word_at,
 };
 use rows::Rows;
 use schedule::{first_bad_byte, first_idle};
 pub use schedule::{is_bad_byte, is_idle};
-pub use shares::{counts_of, firsts_of};
 use std::error::Error;
 use std::fmt;
 

@@ -1,11 +1,11 @@
 // Numbers of several bytes, lowest byte first (R1), the header by value, and where the parts begin that it gives (R2, R6 to R8).
 ghost use Rattle.std.specs.Prelude.{◌≡◌, ◌+◌, ◌*◌, ◌≤◌, ◌<◌, length, take, drop};
 ghost use Rattle.runfile.specs.Format.{least_head, number_size, RowSize};
-ghost use Rattle.runfile.specs.Layout.{u16_at, u64_at, widened, number_at, row_of_table, HasRow, marked, header_in, word_place, length_given};
-ghost use Rattle.runfile.specs.Promises.{Index8, Index16, FourBytes, RowRead, RowWord, HeaderOrZeros, StartWord, Stride, RowsStart, ScheduleStart};
+ghost use Rattle.runfile.specs.Layout.{u16_at, u64_at, widened, number_at, marked, header_in, word_place, length_given};
+ghost use Rattle.runfile.specs.Promises.{Index8, Index16, FourBytes, HeaderOrZeros, StartWord, Stride, RowsStart, ScheduleStart};
 
-use super::format::{head_size, new_place, row_size, word_size};
-use super::{Header, Row};
+use super::Header;
+use super::format::{head_size, row_size, word_size};
 
 pub fn index8(x: u8) -> usize
     ensures { Index8 x result }
@@ -61,39 +61,6 @@ pub fn number_at(file: &[u8], at: usize, stride: usize) -> u32
         return u32::from(u16_at(file, at));
     }
     u32_at(file, at)
-}
-
-// Row k of a table of rows, which are so many bytes from one to the next.
-pub fn row_at(table: &[u8], stride: usize, k: usize) -> Row
-    requires { HasRow stride table.now k }
-    ensures { RowRead stride table.now k result }
-{
-    let at = k * stride;
-    let new_at = at + new_place(stride);
-    Row {
-        process: table[at],
-        kind: table[at + 1],
-        word: table[at + 2],
-        old: number_at(table, at + 4, stride),
-        new: number_at(table, new_at, stride),
-    }
-}
-
-// Of row k alone the process, and alone the word.
-pub fn process_of_row(table: &[u8], stride: usize, k: usize) -> u8
-    requires { HasRow stride table.now k }
-    ensures { result ≡ (row_of_table stride table.now k).process }
-{
-    let at = k * stride;
-    table[at]
-}
-
-pub fn word_of_row(table: &[u8], stride: usize, k: usize) -> u8
-    requires { HasRow stride table.now k }
-    ensures { RowWord stride table.now k result }
-{
-    let at = k * stride + 2;
-    table[at]
 }
 
 #[tactic(auto, using(crate::proofs::Numbers::mark_stands))]

@@ -1,6 +1,6 @@
--- `row_at` meets its contract: each field is the read that the layout names.
+-- `row` meets its contract: each field is the read that the layout names.
 use Rattle.runfile.specs.Layout.{row_at}
-use Rattle.runfile.proofs.read.row_at.Goals as goal
+use Rattle.runfile.proofs.operations.Operations.row.Goals as goal
 
 pub returns : goal.returns
 unfolding row_at

@@ -4,7 +4,7 @@ use Rattle.runfile.proofs.Tables.{upto_next, sum_fits}
 use native.Mathlib.Omega.{arith}
 use Rattle.runfile.specs.Shares.{sum_to}
 use mathlib.Core.Path.{refl}
-use Rattle.runfile.proofs.shares.firsts_of.Goals as goal
+use Rattle.runfile.proofs.operations.firsts_of.Goals as goal
 
 pub loop-p-init : goal.loop-p-init
 unfolding sum_to

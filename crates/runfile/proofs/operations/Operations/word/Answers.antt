@@ -1,7 +1,7 @@
--- `word_of_row` meets its contract: it reads the row's third byte.
+-- `word` meets its contract: it reads the row's third byte.
 use Rattle.runfile.specs.Layout.{row_at}
 use mathlib.Core.Path.{refl}
-use Rattle.runfile.proofs.read.word_of_row.Goals as goal
+use Rattle.runfile.proofs.operations.Operations.word.Goals as goal
 
 pub returns : goal.returns
 unfolding row_at
