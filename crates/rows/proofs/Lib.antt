@@ -1,4 +1,3 @@
 pub mod Place
-pub mod Shift
 pub mod First
 pub mod Insert

@@ -10,12 +10,12 @@ use Rattle.rows.specs.declared.Sought.{Sought}
 use Rattle.rows.specs.Log.{place, insert, first_swap}
 use Rattle.rows.specs.Buffers.{flat, rows_of, infront}
 
--- `place_of(log, rows, position)` (R170); that the place is within the rows follows, and is there for the caller's arithmetic
+-- `log.place_of(position)` (R170); that the place is within the rows follows, and is there for the caller's arithmetic
 pub record Places (log : List ℕ) (rows position r : ℕ) : Type 0 where
   pub result : r ≡ place position (rows_of rows log)
   pub within : r ≤ rows
 
--- `first_swap_after(table, stride, operations, log, rows, sought)`: a table of so many rows and a log of so many, and the position found
+-- `log.first_swap_after(operations, sought)`: a table of so many rows and a log of so many, and the position found
 pub record Searched (stride : ℕ) (table : List ℕ) (operations : ℕ) (log : List ℕ) (rows : ℕ) : Type 0 where
   pub size : RowSize stride
   pub whole : operations * stride ≤ length table
@@ -24,11 +24,11 @@ pub record Searched (stride : ℕ) (table : List ℕ) (operations : ℕ) (log : 
 abbrev pub FirstSwapped : (stride : ℕ) (table : List ℕ) (operations : ℕ) (log : List ℕ) (rows : ℕ) (sought : Sought) (r : ℕ) → Type 0
 FirstSwapped stride table operations log rows sought r = r ≡ first_swap (rows_from stride table 0 operations) sought.word sought.after sought.none (rows_of rows log)
 
--- `insert_row(log, rows, entry)`: the log before, and after (R171)
+-- `log.insert(entry)`: the log before, and after (R171)
 abbrev pub Inserted : (log : List ℕ) (rows : ℕ) (e : Entry) (log' : List ℕ) → Type 0
 Inserted log rows e log' = log' ≡ infront (flat (insert e (rows_of rows log))) log
 
--- `add_answer(answers, rows, entry)` (R163)
+-- `answers.push(entry)` (R163)
 abbrev pub Added : (answers : List ℕ) (rows : ℕ) (e : Entry) (answers' : List ℕ) → Type 0
 Added answers rows e answers' = answers' ≡ infront (flat (rows_of rows answers ++ (e ∷ []))) answers
 

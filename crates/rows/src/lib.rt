@@ -1,16 +1,13 @@
 // The log and the answers: lent buffers of numbers that hold rows of five, from the front (R160, R183).
 //
-// How many rows a buffer holds is the caller's to know, and comes as a number. What stands behind the rows,
-// the new one included, is neither read nor changed.
+// What stands behind the rows, the new one included, is neither read nor changed.
 #![tactic(auto)]
 
 mod log;
 
-ghost use Rattle.std.specs.Prelude.{◌+◌, ◌*◌, ◌≤◌, ◌≡◌, length};
+ghost use Rattle.std.specs.Prelude.{◌≡◌, ◌+◌, ◌*◌, ◌≤◌, length};
 ghost use Rattle.rows.specs.Buffers.{five, placed};
 ghost use Rattle.rows.specs.Promises.{Added};
-
-pub use log::{first_swap_after, insert_row, place_of};
 
 // A row of the log or of the answers. Any five numbers make one: a log that is lent may hold anything.
 #[derive(Clone, Copy, Debug, PartialEq, Eq)]
@@ -22,6 +19,22 @@ pub struct Entry {
     pub value: u32,
 }
 
+// The five numbers of a row, in the order in which they stand in a buffer (R160).
+impl From<Entry> for [u32; 5] {
+    ghost from_gives = { λ entry numbers. numbers ≡ five entry };
+
+    #[tactic(auto, unfolding(crate::specs::Buffers::five))]
+    fn from(entry: Entry) -> [u32; 5] {
+        [
+            entry.position,
+            entry.process,
+            entry.row,
+            entry.verdict,
+            entry.value,
+        ]
+    }
+}
+
 // What a lost swap looks for in the log: a successful swap on its word after this position, that of its A1 (R168). Where there
 // is none, `none` is taken for the swap's position (R169).
 #[derive(Clone, Copy, Debug, PartialEq, Eq)]
@@ -31,22 +44,31 @@ pub struct Sought {
     pub none: u32,
 }
 
+// A lent buffer, and how many rows stand in it.
+#[derive(Drop)]
+pub struct Entries<'a> {
+    pub numbers: &'a mut [u32],
+    pub count: usize,
+}
+
 // Writes a row's five numbers from a place on.
+#[tactic(auto, unfolding(crate::specs::Buffers::placed, crate::specs::Buffers::five))]
 fn write_row(buffer: &mut [u32], at: usize, entry: Entry)
     requires { at + 5 ≤ length buffer.old }
     ensures { buffer.new ≡ placed at (five entry) buffer.old }
 {
-    buffer[at] = entry.position;
-    buffer[at + 1] = entry.process;
-    buffer[at + 2] = entry.row;
-    buffer[at + 3] = entry.verdict;
-    buffer[at + 4] = entry.value;
+    buffer[at..at + 5].copy_from_slice(&<[u32; 5]>::from(entry));
 }
 
-// Adds a row behind the first `rows` rows: answers stand in the order in which they were given (R163).
-pub fn add_answer(answers: &mut [u32], rows: usize, entry: Entry)
-    requires { rows * 5 + 5 ≤ length answers.old }
-    ensures { Added answers.old rows entry answers.new }
-{
-    write_row(answers, rows * 5, entry);
+impl Entries<'_> {
+    // Adds a row behind the others: answers stand in the order in which they were given (R163).
+    pub fn push(&mut self, entry: Entry)
+        requires { self.old.count * 5 + 5 ≤ length self.old.numbers.now }
+        ensures same_buffer { self.new.numbers.ghost_name ≡ self.old.numbers.ghost_name }
+        ensures counted { self.new.count ≡ self.old.count + 1 }
+        ensures added { Added self.old.numbers.now self.old.count entry self.new.numbers.now }
+    {
+        write_row(self.numbers, self.count * 5, entry);
+        self.count += 1;
+    }
 }

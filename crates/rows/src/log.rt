@@ -7,110 +7,89 @@ ghost use Rattle.rows.specs.Log.{is_swap};
 ghost use Rattle.rows.specs.Buffers.{entry_at, shifted};
 ghost use Rattle.rows.specs.Promises.{Places, Searched, FirstSwapped, Inserted};
 
-use super::{Entry, Sought, write_row};
+use super::{Entries, Entry, Sought, write_row};
+use runfile::Operations;
 
-// The place of a new row among the first `rows` rows (R170). It is looked for from the last row on, since nearly every
-// row goes to the end (R172); the rows behind the first that it finds are all of larger position, whatever the order.
-pub fn place_of(log: &[u32], rows: usize, position: u32) -> usize
-    requires { rows * 5 ≤ length log.now }
-    ensures { Places log.now rows position result }
-{
-    let mut place = rows;
-    while 0 < place {
-        let last = place - 1;
-        if log[last * 5] <= position {
-            return place;
-        }
-        place = last;
-    }
-    0
-}
-
-// Moves the first `count` numbers of a part of the log up by one row (R171), from the last to the first, so that none
-// is overwritten before it is moved. The first five numbers stay until a row is written over them.
+// Moves the first `count` numbers of a part of the log up by one row (R171). The first five numbers stay until a row is
+// written over them.
+#[tactic(auto, unfolding(crate::specs::Buffers::shifted))]
 fn shift_rows(part: &mut [u32], count: usize)
     requires { count + 5 ≤ length part.old }
     ensures { part.new ≡ shifted count part.old }
 {
-    let mut i = count;
-    while 0 < i {
-        i -= 1;
-        part[i + 5] = part[i];
-    }
-}
-
-// Puts a row into the log at its place (R170, R171). Only the part from that place on is lent to be moved (R303).
-pub fn insert_row(log: &mut [u32], rows: usize, entry: Entry)
-    requires { rows * 5 + 5 ≤ length log.old }
-    ensures { Inserted log.old rows entry log.new }
-{
-    let place = place_of(log, rows, entry.position);
-    let at = place * 5;
-    let count = rows * 5 - at;
-    shift_rows(&mut log[at..], count);
-    write_row(log, at, entry);
+    part.copy_within(..count, 5);
 }
 
 // Whether a verdict tells of a successful swap: a compare's or an advance's (R161).
 fn is_swapped(verdict: u32) -> bool
     ensures { result ≡ swap_verdict verdict }
 {
-    match verdict {
-        1 => true,
-        4 => true,
-        _ => false,
-    }
+    matches!(verdict, 1 | 4)
 }
 
-// Whether row i of the log is such a swap as is sought (R168). The table is the part of the file with its rows, so
-// many bytes from one to the next; a row number past it names no row.
-fn is_swap_after(
-    table: &[u8],
-    stride: usize,
-    operations: usize,
-    log: &[u32],
-    i: usize,
-    sought: Sought,
-) -> bool
-    requires { Searched stride table.now operations log.now (i + 1) }
-    ensures { result ≡ is_swap (rows_from stride table.now 0 operations) sought.word sought.after (entry_at log.now (i * 5)) }
-{
-    let at = i * 5;
-    let verdict = log[at + 3];
-    if verdict == 0 {
-        return false;
-    }
-    if log[at] <= sought.after {
-        return false;
-    }
-    if !is_swapped(verdict) {
-        return false;
-    }
-    let row = log[at + 2] as usize;
-    if row >= operations {
-        return false;
-    }
-    runfile::word_of_row(table, stride, row) == sought.word
-}
-
-// The position of the first of the first `rows` rows that is such a swap as is sought (R168).
-pub fn first_swap_after(
-    table: &[u8],
-    stride: usize,
-    operations: usize,
-    log: &[u32],
-    rows: usize,
-    sought: Sought,
-) -> u32
-    requires { Searched stride table.now operations log.now rows }
-    ensures { FirstSwapped stride table.now operations log.now rows sought result }
-{
-    let mut i = 0;
-    while i < rows {
-        if is_swap_after(table, stride, operations, log, i, sought) {
-            return log[i * 5];
+impl Entries<'_> {
+    // The place of a new row (R170). It is looked for from the last row on, since nearly every row goes to the end (R172);
+    // the rows behind the first that it finds are all of larger position, whatever the order.
+    pub fn place_of(&self, position: u32) -> usize
+        requires { self.now.count * 5 ≤ length self.now.numbers.now }
+        ensures { Places self.now.numbers.now self.now.count position result }
+    {
+        for last in (0..self.count).rev() {
+            if self.numbers[last * 5] <= position {
+                return last + 1;
+            }
         }
-        i += 1;
+        0
     }
-    sought.none
+
+    // Puts a row into the log at its place (R170, R171). Only the part from that place on is lent to be moved (R303).
+    pub fn insert(&mut self, entry: Entry)
+        requires { self.old.count * 5 + 5 ≤ length self.old.numbers.now }
+        ensures same_buffer { self.new.numbers.ghost_name ≡ self.old.numbers.ghost_name }
+        ensures counted { self.new.count ≡ self.old.count + 1 }
+        ensures inserted { Inserted self.old.numbers.now self.old.count entry self.new.numbers.now }
+    {
+        let at = self.place_of(entry.position) * 5;
+        let moved = self.count * 5 - at;
+        shift_rows(&mut self.numbers[at..], moved);
+        write_row(self.numbers, at, entry);
+        self.count += 1;
+    }
+
+    // Whether row i is such a swap as is sought (R168). A row number past the table names no row.
+    fn is_swap_after(&self, i: usize, operations: Operations, sought: Sought) -> bool
+        requires { Searched operations.stride operations.table.now operations.count self.now.numbers.now (i + 1) }
+        ensures { result ≡ is_swap (rows_from operations.entry.stride operations.entry.table.now 0 operations.entry.count) sought.word sought.after (entry_at self.now.numbers.now (i * 5)) }
+    {
+        let at = i * 5;
+        let log = &*self.numbers;
+        let verdict = log[at + 3];
+        if verdict == 0 {
+            return false;
+        }
+        if log[at] <= sought.after {
+            return false;
+        }
+        if !is_swapped(verdict) {
+            return false;
+        }
+        let row = log[at + 2] as usize;
+        if row >= operations.count {
+            return false;
+        }
+        operations.word(row) == sought.word
+    }
+
+    // The position of the first row that is such a swap as is sought (R168).
+    pub fn first_swap_after(&self, operations: Operations, sought: Sought) -> u32
+        requires { Searched operations.stride operations.table.now operations.count self.now.numbers.now self.now.count }
+        ensures { FirstSwapped operations.entry.stride operations.entry.table.now operations.entry.count self.now.numbers.now self.now.count sought result }
+    {
+        for i in 0..self.count {
+            if self.is_swap_after(i, operations, sought) {
+                return self.numbers[i * 5];
+            }
+        }
+        sought.none
+    }
 }

@@ -1,6 +1,6 @@
 -- `is_swap_after` meets its contract: each test of the row is one of `is_swap`, in whatever order they are made, and the table's byte is the word that
 -- the row names.
-use Prim.Native.Nat.{ℕ, ◌+◌, ◌*◌, ◌≤◌, ◌<◌}
+use Prim.Native.Nat.{ℕ, ◌+◌, ◌≤◌, ◌<◌}
 use mathlib.Core.Path.{◌≡◌, sym, ◌∙◌}
 use mathlib.Core.Bool.{Bool, true, false, and-false}
 use mathlib.Core.List.{List}
@@ -15,7 +15,7 @@ use Rattle.runfile.specs.OperationLaws.{names_table, names_past}
 use Rattle.rows.specs.Entries.{swap_verdict, is_swapped}
 use Rattle.rows.specs.Log.{is_swap}
 use Rattle.rows.specs.Buffers.{entry_at}
-use Rattle.rows.proofs.log.is_swap_after.Goals as goal
+use Rattle.rows.proofs.Entries.is_swap_after.Goals as goal
 
 module _ (stride : ℕ) (table log : List ℕ) (n w a k : ℕ) where
   abbrev found : Bool
@@ -48,17 +48,14 @@ returns-then-log-at c = early _ _ _ _ _ _ _ (omega arith)
 pub returns-then-not-is_swapped : goal.returns-then-not-is_swapped
 returns-then-not-is_swapped c = lost _ _ _ _ _ _ _ (sym c.is_swapped.ensures ∙ c.if-not-is_swapped.true)
 
-pub overflow_cast-row : goal.overflow_cast-row
-overflow_cast-row c = omega (arith, c.type_inv.log (c.args.i * 5 + 2))
-
 pub returns-then-row-operations : goal.returns-then-row-operations
 returns-then-row-operations c = past _ _ _ _ _ _ _ (sym c.is_swapped.ensures ∙ c.if-not-is_swapped.false) (omega (arith, c.if-log-at.false)) c.if-row-operations.true
 
-pub word_of_row-requires : goal.word_of_row-requires
-word_of_row-requires c =
+pub word-requires : goal.word-requires
+word-requires c =
     let pre = c.requires in
     has_row _ _ _ _ pre.size pre.whole c.if-row-operations.false
 
 pub returns : goal.returns
 returns c =
-    there _ _ _ _ _ _ _ (sym c.is_swapped.ensures ∙ c.if-not-is_swapped.false) (omega (arith, c.if-log-at.false)) c.if-row-operations.false _ c.word_of_row.ensures
+    there _ _ _ _ _ _ _ (sym c.is_swapped.ensures ∙ c.if-not-is_swapped.false) (omega (arith, c.if-log-at.false)) c.if-row-operations.false _ c.word.ensures

@@ -1,4 +1,4 @@
--- `add_answer` meets its contract: the five numbers stand directly behind those of the rows before.
+-- `push` meets its contract: the five numbers stand directly behind those of the rows before.
 use Prim.Native.Nat.{ℕ, ◌+◌, ◌*◌, ◌≤◌}
 use mathlib.Core.Path.{◌≡◌, sym, ◌∙◌}
 use mathlib.Core.List.{List, [], ◌∷◌, ◌++◌, append_assoc}
@@ -8,7 +8,7 @@ use lib.Seq.{length-take-le}
 use Rattle.rows.specs.declared.Entry.{Entry}
 use Rattle.rows.specs.Buffers.{rows_of, placed, five, flat, infront}
 use Rattle.rows.specs.BufferLaws.{flat_append, flat-rows_of}
-use Rattle.rows.proofs.add_answer.Goals as goal
+use Rattle.rows.proofs.Entries.push.Goals as goal
 
 added : (n : ℕ) (xs : List ℕ) (e : Entry) → n * 5 + 5 ≤ length xs → placed (n * 5) (five e) xs ≡ infront (flat (rows_of n xs ++ (e ∷ []))) xs
 unfolding placed infront five
@@ -16,5 +16,5 @@ added n xs e room =
     rw (flat_append (rows_of n xs) (e ∷ []), flat-rows_of n xs (omega arith), length-append (take (n * 5) xs) (five e), length-take-le (n * 5) xs (omega arith))
     (sym (append_assoc (take (n * 5) xs) (five e) (drop (n * 5 + 5) xs)))
 
-pub returns : goal.returns
-returns c = c.write_row.ensures ∙ added c.args.rows c.args.answers.now c.args.entry c.requires
+pub returns-clause-added : goal.returns-clause-added
+returns-clause-added c = c.write_row.ensures ∙ added c.args.self.now.count c.args.self.now.numbers.now c.args.entry c.requires
