@@ -43,9 +43,10 @@ module _ (rows : List Row) (row : Row) (log : List ℕ) (m : ℕ) (w : Work) whe
   stays : m * 5 ≤ length log → entered rows row (rows_of m log) w ≡ rows_of m log → Enters rows row log m w m log
   stays room e = record { count = sym (ap length e ∙ length-rows_of m log); log_is = rows_same m log room ∙ ap (λ es. infront (flat es) log) (sym e) }
 
-  grows : (e : Entry) (log' : List ℕ) → entered rows row (rows_of m log) w ≡ insert e (rows_of m log) → log' ≡ infront (flat (insert e (rows_of m log))) log → Enters rows row log m w (m + 1) log'
-  grows e log' is put = record {
-    count = sym (ap length is ∙ length-insert e (rows_of m log) ∙ ap (λ n. n + 1) (length-rows_of m log));
+  -- one row is entered: the log has a row more
+  grows : (e : Entry) (r : ℕ) (log' : List ℕ) → r ≡ m + 1 → entered rows row (rows_of m log) w ≡ insert e (rows_of m log) → log' ≡ infront (flat (insert e (rows_of m log))) log → Enters rows row log m w r log'
+  grows e r log' more is put = record {
+    count = more ∙ sym (ap length is ∙ length-insert e (rows_of m log) ∙ ap (λ n. n + 1) (length-rows_of m log));
     log_is = put ∙ ap (λ es. infront (flat es) log) (sym is);
   }
 
@@ -61,13 +62,13 @@ module _ (rows : List Row) (row : Row) (log : List ℕ) (m : ℕ) (w : Work) whe
   unfolding after_as storing_in
   enter_was room v e = stays room (is_as (Some (Was v)) e)
 
-  pub enter_value : (v : ℕ) → w.answer ≡ Some (Value v) → (q : ℕ) (e : Entry) (log' : List ℕ) → q ≡ w.read_at → e ≡ entry q w.process w.row w.answer
-      → log' ≡ infront (flat (insert e (rows_of m log))) log → Enters rows row log m w (m + 1) log'
+  pub enter_value : (v : ℕ) → w.answer ≡ Some (Value v) → (q r : ℕ) (e : Entry) (log' : List ℕ) → r ≡ m + 1 → q ≡ w.read_at → e ≡ entry q w.process w.row w.answer
+      → log' ≡ infront (flat (insert e (rows_of m log))) log → Enters rows row log m w r log'
   unfolding after_as storing_in
-  enter_value v a q e log' at en put =
-      grows e log' (is_as (Some (Value v)) a ∙ ap (λ e. insert e (rows_of m log)) (sym (en ∙ ap₂ (λ q s. entry q w.process w.row s) at a))) put
+  enter_value v a q r e log' more at en put =
+      grows e r log' more (is_as (Some (Value v)) a ∙ ap (λ e. insert e (rows_of m log)) (sym (en ∙ ap₂ (λ q s. entry q w.process w.row s) at a))) put
 
-  pub enter_false : w.answer ≡ Some False → (q : ℕ) (e : Entry) (log' : List ℕ) → q ≡ false_at rows row (rows_of m log) w → e ≡ entry q w.process w.row w.answer
-      → log' ≡ infront (flat (insert e (rows_of m log))) log → Enters rows row log m w (m + 1) log'
-  enter_false a q e log' at en put =
-      grows e log' (is_as (Some False) a ∙ false_as ∙ ap (λ e. insert e (rows_of m log)) (sym (en ∙ ap₂ (λ q s. entry q w.process w.row s) at a))) put
+  pub enter_false : w.answer ≡ Some False → (q r : ℕ) (e : Entry) (log' : List ℕ) → r ≡ m + 1 → q ≡ false_at rows row (rows_of m log) w → e ≡ entry q w.process w.row w.answer
+      → log' ≡ infront (flat (insert e (rows_of m log))) log → Enters rows row log m w r log'
+  enter_false a q r e log' more at en put =
+      grows e r log' more (is_as (Some False) a ∙ false_as ∙ ap (λ e. insert e (rows_of m log)) (sym (en ∙ ap₂ (λ q s. entry q w.process w.row s) at a))) put

@@ -25,15 +25,15 @@ use Rattle.machine.specs.Reach.{Looked}
 use Rattle.machine.specs.Steps.{storing, entry, after_read, kept_by, swap_says, lost_by, recovered, same_bit}
 use Rattle.machine.specs.Machine.{effect_of, log_after}
 
--- `fresh()`
+-- `Process::fresh()`
 abbrev pub Fresh : (r : Process) → Type 0
 Fresh r = r ≡ fresh
 
--- `stage_number(stage)`
+-- `u8::from(stage)`
 abbrev pub StageNumbered : (stage : Stage) (r : ℕ) → Type 0
 StageNumbered stage r = r ≡ stage_number stage
 
--- `open_row(opened)`
+-- `process.open_row()`
 abbrev pub OpenRow : (opened : Option ℕ) (r : ℕ) → Type 0
 OpenRow opened r = r ≡ row_open opened
 
@@ -41,7 +41,7 @@ OpenRow opened r = r ≡ row_open opened
 abbrev pub AtWork : (stage : Stage) (word read_at tried_at : ℕ) (answer : Option Answer) (r : Status) → Type 0
 AtWork stage word read_at tried_at answer r = r ≡ Busy stage word read_at tried_at answer
 
--- `start(process, first)`
+-- `process.start(first)`
 abbrev pub Started : (process : Process) (first : ℕ) (r : Process) → Type 0
 Started process first r = r ≡ started (first + process.begun) process
 
@@ -88,11 +88,11 @@ Replied number answer stored r = r ≡ reply_at number answer stored
 abbrev pub EntryMade : (position process row : ℕ) (said : Option Answer) (r : Entry) → Type 0
 EntryMade position process row said r = r ≡ entry position process row said
 
--- `word_now(table, stride, k, words)`: the word that row k is on
+-- `word_now(operations, k, words)`: the word that row k is on
 abbrev pub WordNow : (stride : ℕ) (table : List ℕ) (k : ℕ) (words : List ℕ) (r : ℕ) → Type 0
 WordNow stride table k words r = r ≡ get_or words (row_of_table stride table k).word 0
 
--- `store_word(table, stride, k, words, new)`: the words before, and after
+-- `store_word(operations, k, words, new)`: the words before, and after
 abbrev pub WordStored : (stride : ℕ) (table : List ℕ) (k : ℕ) (words : List ℕ) (new : ℕ) (words' : List ℕ) → Type 0
 WordStored stride table k words new words' = words' ≡ set words (row_of_table stride table k).word new
 
@@ -100,7 +100,7 @@ WordStored stride table k words new words' = words' ≡ set words (row_of_table 
 unfoldable pub false_at : List Row → Row → List Entry → Work → ℕ
 false_at rows row log w = cond (eqb (value w.seen) row.old) (first_swap rows row.word w.read_at w.tried_at log) w.read_at
 
--- `false_at(table, stride, n, log, log_rows, work)`
+-- `false_at(operations, log, work)`
 abbrev pub FalseAt : (stride : ℕ) (table : List ℕ) (n : ℕ) (log : List ℕ) (m : ℕ) (w : Work) (r : ℕ) → Type 0
 FalseAt stride table n log m w r = r ≡ false_at (rows_from stride table 0 n) (row_of_table stride table w.row) (rows_of m log) w
 
@@ -112,7 +112,7 @@ pub record Enters (rows : List Row) (row : Row) (log : List ℕ) (m : ℕ) (w : 
   pub count : r ≡ length (entered rows row (rows_of m log) w)
   pub log_is : log' ≡ infront (flat (entered rows row (rows_of m log) w)) log
 
--- `enter(table, stride, n, log, log_rows, work)`: row k is in the table, and the log has room for a row more; how many rows the log has then, and the log
+-- `enter(operations, log, work)`: row k is in the table, and the log has room for a row more; how many rows the log has then, and the log
 pub record Enterable (stride : ℕ) (table : List ℕ) (n k : ℕ) (log : List ℕ) (m : ℕ) : Type 0 where
   pub looked : Looked stride table n k log m
   pub room : m * 5 + 5 ≤ length log

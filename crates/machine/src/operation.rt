@@ -1,29 +1,27 @@
 // What the stages of an operation, A1 to A5, do with the word and the log.
-ghost use Rattle.std.specs.Prelude.{◌+◌};
+ghost use Rattle.std.specs.Prelude.{◌≡◌};
 ghost use Rattle.machine.specs.Reach.{Reach, Looked};
 ghost use Rattle.machine.specs.Promises.{WordNow, WordStored, AfterRead, FalseAt, Enterable, Entered};
 
 use super::said::entry_of;
 use super::{Answer, Stage, Status, Work};
-use rows::Sought;
-use runfile::{Kind, Row};
+use rows::{Entries, Sought};
+use runfile::{Kind, Operations, Row};
 
 // The word that row k is on, as it stands now.
-pub fn word_now(table: &[u8], stride: usize, k: usize, words: &[u64]) -> u64
-    requires { Reach stride table.now k words.now }
-    ensures { WordNow stride table.now k words.now result }
+pub fn word_now(operations: Operations, k: usize, words: &[u64]) -> u64
+    requires { Reach operations.stride operations.table.now k words.now }
+    ensures { WordNow operations.entry.stride operations.entry.table.now k words.now result }
 {
-    let w = runfile::index8(runfile::word_of_row(table, stride, k));
-    words[w]
+    words[usize::from(operations.word(k))]
 }
 
 // Puts a number into the word that row k is on.
-pub fn store_word(table: &[u8], stride: usize, k: usize, words: &mut [u64], new: u64)
-    requires { Reach stride table.now k words.old }
-    ensures { WordStored stride table.now k words.old new words.new }
+pub fn store_word(operations: Operations, k: usize, words: &mut [u64], new: u64)
+    requires { Reach operations.stride operations.table.now k words.old }
+    ensures { WordStored operations.entry.stride operations.entry.table.now k words.old new words.new }
 {
-    let w = runfile::index8(runfile::word_of_row(table, stride, k));
-    words[w] = new;
+    words[usize::from(operations.word(k))] = new;
 }
 
 // A1, once the word is read at this position: a read is done, and so is a compare that meets another value; an
@@ -55,12 +53,11 @@ pub fn after_read(row: Row, word: u64, position: u16) -> Status
 // The position with which a false enters the log: a lost swap, which had read old, takes that of the swap that beat it
 // (R167, R168); any other that of its A1 (R166).
 #[tactic(auto, unfolding(crate::specs::Promises::false_at))]
-fn false_at(table: &[u8], stride: usize, n: usize, log: &[u32], log_rows: usize, work: Work) -> u32
-    requires { Looked stride table.now n work.row log.now log_rows }
-    ensures { FalseAt stride table.now n log.now log_rows work result }
+fn false_at(operations: Operations, log: &Entries, work: Work) -> u32
+    requires { Looked operations.stride operations.table.now operations.count work.row log.now.numbers.now log.now.count }
+    ensures { FalseAt operations.entry.stride operations.entry.table.now operations.entry.count log.now.numbers.now log.now.count work result }
 {
-    let k = runfile::index16(work.row);
-    let row = runfile::row_at(table, stride, k);
+    let row = operations.row(usize::from(work.row));
     let read_at = u32::from(work.read_at);
     if word::value_of(work.seen) == row.old {
         let sought = Sought {
@@ -68,40 +65,31 @@ fn false_at(table: &[u8], stride: usize, n: usize, log: &[u32], log_rows: usize,
             after: read_at,
             none: u32::from(work.tried_at),
         };
-        return rows::first_swap_after(table, stride, n, log, log_rows, sought);
+        return log.first_swap_after(operations, sought);
     }
     read_at
 }
 
-// A5: puts into the log what it gets of the answer that is stored (R164 to R167). Answers how many rows the log has
-// then.
-pub fn enter(
-    table: &[u8],
-    stride: usize,
-    n: usize,
-    log: &mut [u32],
-    log_rows: usize,
-    work: Work,
-) -> usize
-    requires { Enterable stride table.now n work.row log.old log_rows }
-    ensures { Entered stride table.now n log.old log_rows work result log.new }
+// A5: puts into the log what it gets of the answer that is stored (R164 to R167).
+pub fn enter(operations: Operations, log: &mut Entries, work: Work)
+    requires { Enterable operations.stride operations.table.now operations.count work.row log.old.numbers.now log.old.count }
+    ensures same_buffer { log.new.numbers.ghost_name ≡ log.old.numbers.ghost_name }
+    ensures entered { Entered operations.entry.stride operations.entry.table.now operations.entry.count log.old.numbers.now log.old.count work log.new.count log.new.numbers.now }
 {
     let Some(said) = work.answer else {
-        return log_rows;
+        return;
     };
     match said {
-        Answer::True | Answer::Was(_) => log_rows,
+        Answer::True | Answer::Was(_) => {}
         Answer::Value(_) => {
             let at = u32::from(work.read_at);
             let read = entry_of(at, work.process, work.row, work.answer);
-            rows::insert_row(log, log_rows, read);
-            log_rows + 1
+            log.insert(read);
         }
         Answer::False => {
-            let at = false_at(table, stride, n, log, log_rows, work);
+            let at = false_at(operations, log, work);
             let lost = entry_of(at, work.process, work.row, work.answer);
-            rows::insert_row(log, log_rows, lost);
-            log_rows + 1
+            log.insert(lost);
         }
     }
 }
