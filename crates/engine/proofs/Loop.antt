@@ -101,7 +101,7 @@ words_kept (swaps w x e) words = length-set words w x
 words_kept (logs e) words = refl
 words_kept (replies e) words = refl
 
-log_grown : (e : Effect) (log : List Entry) → (length log ≤ length (log_after e log)) × (length (log_after e log) ≤ length log + 1)
+pub log_grown : (e : Effect) (log : List Entry) → (length log ≤ length (log_after e log)) × (length (log_after e log) ≤ length log + 1)
 log_grown quiet log = (omega arith, omega arith)
 log_grown (swaps w x e) log = let q = length-insert e log in (omega arith, omega arith)
 log_grown (logs e) log = let q = length-insert e log in (omega arith, omega arith)
@@ -527,3 +527,9 @@ module _ {rows : List Row} {P : ℕ} {from : Standing} {bytes words₀ log₀ an
             go false x true y = decided_at 10 (eqb-true number 10 y) ∙ to_said (rw (x, y))
             go false x false y =
                 decided_at 11 (eleventh number below (past_nine number (past_four number n0 n1 n2 n3 n4) (eqb-false number 5 x) n6 n7 n8 n9) (eqb-false number 10 y)) ∙ to_said (rw (x, y))
+
+-- what is left is said of the buffers as they are when they are given back
+pub left_in : {s : State} {P size : ℕ} {from : Standing} {log₀ answers₀ : List ℕ} {r : Standing} {words log answers log' answers' : List ℕ}
+    → Left s P from size log₀ answers₀ r words log answers → log ≡ log' → answers ≡ answers' → Left s P from size log₀ answers₀ r words log' answers'
+left_in {s} {P} {size} {from} {log₀} {answers₀} {r} {words} {log} {answers} {log'} {answers'} h e f =
+    subst (λ l. Left s P from size log₀ answers₀ r words l answers') e (subst (λ a. Left s P from size log₀ answers₀ r words log a) f h)

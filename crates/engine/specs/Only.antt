@@ -1,6 +1,7 @@
 -- No second outcome meets the contract of `run_bytes`: it is an equation for each field of the result and for each buffer.
 use Rattle.std.specs.Prelude.{◌≡◌, ℕ, List}
 use Rattle.std.proofs.Common.{sym, ap, ◌∙◌}
+use Rattle.runfile.specs.declared.Operations.{Operations}
 use Rattle.engine.specs.declared.Standing.{Standing}
 use Rattle.engine.specs.declared.Part.{Part}
 use Rattle.engine.specs.Part.{Runs}
@@ -12,10 +13,10 @@ same_standing r q a b c d =
     ∙ ap (λ m. record { processes = q.processes; position = q.position; log = m; answers = r.answers }) c
     ∙ ap (λ k. record { processes = q.processes; position = q.position; log = q.log; answers = k }) d
 
-pub runs_one : (part : Part) (table bytes words log answers : List ℕ) (r q : Standing) (words' words'' log' log'' answers' answers'' : List ℕ)
-    → Runs part table bytes words log answers r words' log' answers' → Runs part table bytes words log answers q words'' log'' answers''
+pub runs_one : (part : Part) (operations : Operations) (bytes words log answers : List ℕ) (r q : Standing) (words' words'' log' log'' answers' answers'' : List ℕ)
+    → Runs part operations bytes words log answers r words' log' answers' → Runs part operations bytes words log answers q words'' log'' answers''
     → (r ≡ q) × (words' ≡ words'') × (log' ≡ log'') × (answers' ≡ answers'')
-runs_one part table bytes words log answers r q words' words'' log' log'' answers' answers'' a b =
+runs_one part operations bytes words log answers r q words' words'' log' log'' answers' answers'' a b =
     let x = a.holds in
     let y = b.holds in (
       same_standing r q (a.processes_are ∙ sym b.processes_are) (a.position_is ∙ sym b.position_is) (x.log_count ∙ sym y.log_count) (x.answers_count ∙ sym y.answers_count),

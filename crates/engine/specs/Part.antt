@@ -1,5 +1,6 @@
 -- A part of a schedule run over lent buffers: the state that is lent, what is asked of it, and what is left.
 use Rattle.std.specs.Prelude.{ℕ, ◌+◌, ◌*◌, ◌≤◌, ◌<◌, ◌≡◌, List, ◌++◌, length, get_or, take, drop}
+use Rattle.runfile.specs.declared.Operations.{Operations}
 use Rattle.runfile.specs.declared.Row.{Row}
 use Rattle.runfile.specs.Layout.{row_of_table}
 use Rattle.runfile.specs.Shares.{Lined}
@@ -25,20 +26,20 @@ unfoldable pub state_lent : ℕ → Standing → (words log answers : List ℕ) 
 state_lent P from words log answers = record { words = words; processes = take P from.processes; log = rows_of from.log log; answers = rows_of from.answers answers }
 
 -- the rows of the table that is lent
-abbrev pub rows_of_part : Part → List ℕ → List Row
-rows_of_part part table = rows_from part.stride table 0 part.rows
+abbrev pub rows_lent : Operations → List Row
+rows_lent operations = rows_from operations.stride operations.table.now 0 operations.count
 
 -- what is asked: a table of rows that are on these words; bytes that are actions of the first P processes; room for a log row and an answer row for
 -- each byte; and sane records: an open row is in the table, in the midst of work one is open, and a row that is announced is there
-pub record Runnable (part : Part) (table bytes words log answers : List ℕ) : Type 0 where
-  pub lined : Lined part.stride table part.rows
-  pub on_words : (k : ℕ) → k < part.rows → (row_of_table part.stride table k).word < length words
+pub record Runnable (part : Part) (operations : Operations) (bytes words log answers : List ℕ) : Type 0 where
+  pub lined : Lined operations.stride operations.table.now operations.count
+  pub on_words : (k : ℕ) → k < operations.count → (row_of_table operations.stride operations.table.now k).word < length words
   pub present : part.present ≤ 16
   pub lawful : (i : ℕ) → i < length bytes → LawfulByte part.present (get_or bytes i 0)
   pub early : part.from.position + length bytes ≤ 1024
   pub log_room : (part.from.log + length bytes) * 5 ≤ length log
   pub answers_room : (part.from.answers + length bytes) * 5 ≤ length answers
-  pub sane : (p : ℕ) → p < part.present → Sane (rows_of_part part table) p (get_or part.from.processes p nobody)
+  pub sane : (p : ℕ) → p < part.present → Sane (rows_lent operations) p (get_or part.from.processes p nobody)
 
 -- what is left: the first P records are the state's, the others as they were; and the buffers hold the state
 pub record Left (s : State) (P : ℕ) (from : Standing) (size : ℕ) (log answers : List ℕ) (r : Standing) (words' log' answers' : List ℕ) : Type 0 where
@@ -47,6 +48,6 @@ pub record Left (s : State) (P : ℕ) (from : Standing) (size : ℕ) (log answer
   pub holds : Holds s log answers r.log r.answers words' log' answers'
 
 -- the state after the bytes, each at its position (R70 to R173)
-abbrev pub Runs : (part : Part) (table bytes words log answers : List ℕ) (r : Standing) (words' log' answers' : List ℕ) → Type 0
-Runs part table bytes words log answers =
-    Left (after (rows_of_part part table) part.from.position bytes (state_lent part.present part.from words log answers)) part.present part.from (length bytes) log answers
+abbrev pub Runs : (part : Part) (operations : Operations) (bytes words log answers : List ℕ) (r : Standing) (words' log' answers' : List ℕ) → Type 0
+Runs part operations bytes words log answers =
+    Left (after (rows_lent operations) part.from.position bytes (state_lent part.present part.from words log answers)) part.present part.from (length bytes) log answers

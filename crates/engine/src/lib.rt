@@ -7,13 +7,14 @@ ghost use Rattle.engine.specs.Part.{Runnable, Runs};
 
 use machine::{
     Process, Stage, Status, Work, after_loss, after_read, busy, by_bit, by_checkpoint, crash_first,
-    enter, entry_of, keep, open_row, put_in, recovered_of, reply_of, stage_number, start,
-    store_word, swap_says, word_now,
+    enter, entry_of, keep, put_in, recovered_of, reply_of, store_word, swap_says, word_now,
 };
+use rows::Entries;
+use runfile::Operations;
 
 // Where a run stands: the records, of which the first P are processes, the position of the next byte, and how many
 // rows stand in the log and in the answers.
-#[derive(Clone, Copy)]
+#[derive(Clone, Copy, Debug, PartialEq, Eq)]
 pub struct Standing {
     pub processes: [Process; 16],
     pub position: usize,
@@ -21,256 +22,204 @@ pub struct Standing {
     pub answers: usize,
 }
 
-// What a part of a schedule is run with, beside what is lent: how many bytes it is from one row of the table to the
-// next, and how many rows it has; how many of the records are processes; and where the run stands.
-#[derive(Clone, Copy)]
+// What a part of a schedule is run with, beside what is lent: how many of the records are processes, and where the run
+// stands.
+#[derive(Clone, Copy, Debug, PartialEq, Eq)]
 pub struct Part {
-    pub stride: usize,
-    pub rows: usize,
     pub present: usize,
     pub from: Standing,
 }
 
-// Runs the bytes of `schedule`. In each way through the loop the named record is read again and stored again: so only
-// what that way changes is moved.
+// Runs the bytes of `schedule`. In each way through the loop only what that way changes of the named record is stored.
 pub fn run_bytes(
-    table: &[u8],
+    operations: Operations,
     schedule: &[u8],
     words: &mut [u64],
     log: &mut [u32],
     answers: &mut [u32],
     part: Part,
 ) -> Standing
-    requires { Runnable part table.now schedule.now words.old log.old answers.old }
-    ensures { Runs part table.now schedule.now words.old log.old answers.old
+    requires { Runnable part operations schedule.now words.old log.old answers.old }
+    ensures { Runs part operations.entry schedule.now words.old log.old answers.old
         result words.new log.new answers.new }
 {
-    let stride = part.stride;
-    let n = part.rows;
-    let present = part.present;
     let from = part.from;
-    let counts = runfile::counts_of(table, stride, n);
+    let counts = operations.counts();
     let firsts = runfile::firsts_of(counts);
-    let from_position = from.position;
     let mut processes = from.processes;
-    let mut log_rows = from.log;
-    let mut answer_rows = from.answers;
-    let mut i = 0;
-    while i < schedule.len() {
-        let byte = schedule[i];
-        let position = (from_position + i) as u16;
+    let mut log = Entries {
+        numbers: log,
+        count: from.log,
+    };
+    let mut answers = Entries {
+        numbers: answers,
+        count: from.answers,
+    };
+    for (i, &byte) in schedule.iter().enumerate() {
+        let position = (from.position + i) as u16;
         let me = byte % 16;
-        let at = runfile::index8(me);
-        i += 1;
+        let at = usize::from(me);
+        let process = processes[at];
         // The action (R72, R301).
         match byte / 16 {
             // A step (R100).
-            0 => {
-                let named = processes[at];
-                let status = named.status;
-                match status {
-                    // Nothing (R140).
-                    Status::Down => {}
-                    // N1 (R101), where rows are left (R141).
-                    Status::Idle => {
-                        let process = processes[at];
-                        if process.begun < counts[at] {
-                            processes[at] = Process {
-                                status: Status::N2,
-                                stored: None,
-                                ..process
-                            };
-                        }
-                    }
-                    // N2 (R102).
-                    Status::N2 => {
-                        let process = processes[at];
+            0 => match process.status {
+                // Nothing (R140).
+                Status::Down => {}
+                // N1 (R101), where rows are left (R141).
+                Status::Idle => {
+                    if process.begun < counts[at] {
                         processes[at] = Process {
-                            status: Status::N3,
-                            checkpoint: false,
+                            status: Status::N2,
+                            stored: None,
                             ..process
                         };
                     }
-                    // N3 (R103).
-                    Status::N3 => {
-                        let process = processes[at];
-                        processes[at] = start(process, firsts[at]);
-                    }
-                    Status::Busy {
-                        stage,
-                        word: seen,
-                        read_at,
-                        tried_at,
-                        answer,
-                    } => {
-                        let process = processes[at];
-                        let opened = process.opened;
-                        let row = open_row(opened);
-                        let k = runfile::index16(row);
-                        let number = stage_number(stage);
-                        match number {
-                            // A1 (R111).
-                            0 => {
-                                let operation = runfile::row_at(table, stride, k);
-                                let now = word_now(table, stride, k, words);
-                                let status = after_read(operation, now, position);
-                                processes[at] = Process { status, ..process };
-                            }
-                            // A2 (R112).
-                            1 => {
-                                let status = busy(Stage::A3, seen, read_at, tried_at, answer);
-                                let operation = runfile::row_at(table, stride, k);
-                                let kind = runfile::kind_of(operation);
-                                let turned = !word::bit_of(me as u32, seen);
-                                let kept = keep(kind, process.kept, turned, word::value_of(seen));
-                                processes[at] = Process {
-                                    status,
-                                    kept,
-                                    ..process
-                                };
-                            }
-                            // A3 (R113).
-                            2 => {
-                                let status = busy(Stage::A4, seen, read_at, tried_at, answer);
-                                processes[at] = Process {
-                                    status,
-                                    checkpoint: true,
-                                    ..process
-                                };
-                            }
-                            // A4: the swap, with its log row, or lost (R114, R164).
-                            3 => {
-                                let operation = runfile::row_at(table, stride, k);
-                                let kind = runfile::kind_of(operation);
-                                let now = word_now(table, stride, k, words);
-                                if now == seen {
-                                    let found = word::value_of(seen);
-                                    let yes = Some(swap_says(kind, found));
-                                    let status = busy(Stage::A5, seen, read_at, position, yes);
-                                    processes[at] = Process { status, ..process };
-                                    let mark = put_in(kind, operation.new, found);
-                                    let new = word::swapped_of(me as u32, mark, seen);
-                                    store_word(table, stride, k, words, new);
-                                    let won = entry_of(position as u32, me, row, yes);
-                                    rows::insert_row(log, log_rows, won);
-                                    log_rows += 1;
-                                } else {
-                                    let status = after_loss(kind, seen, read_at, position);
-                                    processes[at] = Process { status, ..process };
-                                }
-                            }
-                            // A5, with the log row of any other answer (R115, R165 to R167).
-                            4 => {
-                                let status = busy(Stage::A6, seen, read_at, tried_at, answer);
-                                processes[at] = Process {
-                                    status,
-                                    stored: answer,
-                                    ..process
-                                };
-                                let work = Work {
-                                    process: me,
-                                    row,
-                                    seen,
-                                    read_at,
-                                    tried_at,
-                                    answer,
-                                };
-                                log_rows = enter(table, stride, n, log, log_rows, work);
-                            }
-                            // V1 (R121).
-                            6 => {
-                                let stored = process.stored;
-                                let next = recovered_of(stored);
-                                let status = busy(next, seen, read_at, tried_at, answer);
-                                processes[at] = Process { status, ..process };
-                            }
-                            // V2 (R122).
-                            7 => {
-                                let next = by_checkpoint(process.checkpoint);
-                                let status = busy(next, seen, read_at, tried_at, answer);
-                                processes[at] = Process { status, ..process };
-                            }
-                            // V3 (R123).
-                            8 => {
-                                let now = word_now(table, stride, k, words);
-                                let kept = process.kept;
-                                let next = by_bit(me, now, kept.bit);
-                                let status = busy(next, now, read_at, tried_at, answer);
-                                processes[at] = Process { status, ..process };
-                            }
-                            // V4 (R124).
-                            9 => {
-                                let status = busy(Stage::V5, seen, read_at, tried_at, answer);
-                                let operation = runfile::row_at(table, stride, k);
-                                let kind = runfile::kind_of(operation);
-                                let kept = process.kept;
-                                let stored = Some(swap_says(kind, kept.value));
-                                processes[at] = Process {
-                                    status,
-                                    stored,
-                                    ..process
-                                };
-                            }
-                            // A6, V5 and V6, with the answer row (R116, R125, R126, R163).
-                            _ => {
-                                let stored = process.stored;
-                                let said = reply_of(number, answer, stored);
-                                processes[at] = Process {
-                                    status: Status::Idle,
-                                    opened: None,
-                                    ..process
-                                };
-                                let reply = entry_of(position as u32, me, row, said);
-                                rows::add_answer(answers, answer_rows, reply);
-                                answer_rows += 1;
-                            }
-                        }
-                    }
                 }
-            }
-            // A crash: it leaves a process that is down as it is (R130, R142).
-            1 => {
-                let process = processes[at];
-                processes[at] = Process {
-                    status: Status::Down,
-                    ..process
-                };
-            }
-            // A wake, of a process that is down (R131, R132, R143).
-            2 => {
-                let named = processes[at];
-                let status = named.status;
-                if let Status::Down = status {
-                    let process = processes[at];
-                    let opened = process.opened;
-                    match opened {
-                        None => {
+                // N2 (R102).
+                Status::N2 => {
+                    processes[at] = Process {
+                        status: Status::N3,
+                        checkpoint: false,
+                        ..process
+                    };
+                }
+                // N3 (R103).
+                Status::N3 => processes[at] = process.start(firsts[at]),
+                Status::Busy {
+                    stage,
+                    word: seen,
+                    read_at,
+                    tried_at,
+                    answer,
+                } => {
+                    let row = process.open_row();
+                    let k = usize::from(row);
+                    let number = u8::from(stage);
+                    match number {
+                        // A1 (R111).
+                        0 => {
+                            let now = word_now(operations, k, words);
+                            processes[at].status = after_read(operations.row(k), now, position);
+                        }
+                        // A2 (R112).
+                        1 => {
+                            let kind = runfile::kind_of(operations.row(k));
+                            let turned = !word::bit_of(u32::from(me), seen);
+                            let value = word::value_of(seen);
                             processes[at] = Process {
-                                status: Status::Idle,
+                                status: busy(Stage::A3, seen, read_at, tried_at, answer),
+                                kept: keep(kind, process.kept, turned, value),
                                 ..process
                             };
                         }
-                        Some(_) => {
-                            let status = busy(Stage::V1, 0, 0, 0, None);
-                            processes[at] = Process { status, ..process };
+                        // A3 (R113).
+                        2 => {
+                            processes[at] = Process {
+                                status: busy(Stage::A4, seen, read_at, tried_at, answer),
+                                checkpoint: true,
+                                ..process
+                            };
                         }
+                        // A4: the swap, with its log row, or lost (R114, R164).
+                        3 => {
+                            let operation = operations.row(k);
+                            let kind = runfile::kind_of(operation);
+                            let now = word_now(operations, k, words);
+                            if now == seen {
+                                let found = word::value_of(seen);
+                                let yes = Some(swap_says(kind, found));
+                                processes[at].status = busy(
+                                    Stage::A5,
+                                    seen,
+                                    read_at,
+                                    position,
+                                    yes,
+                                );
+                                let mark = put_in(kind, operation.new, found);
+                                let new = word::swapped_of(u32::from(me), mark, seen);
+                                store_word(operations, k, words, new);
+                                log.insert(entry_of(u32::from(position), me, row, yes));
+                            } else {
+                                processes[at].status = after_loss(kind, seen, read_at, position);
+                            }
+                        }
+                        // A5, with the log row of any other answer (R115, R165 to R167).
+                        4 => {
+                            processes[at] = Process {
+                                status: busy(Stage::A6, seen, read_at, tried_at, answer),
+                                stored: answer,
+                                ..process
+                            };
+                            let work = Work {
+                                process: me,
+                                row,
+                                seen,
+                                read_at,
+                                tried_at,
+                                answer,
+                            };
+                            enter(operations, &mut log, work);
+                        }
+                        // V1 (R121).
+                        6 => {
+                            let next = recovered_of(process.stored);
+                            processes[at].status = busy(next, seen, read_at, tried_at, answer);
+                        }
+                        // V2 (R122).
+                        7 => {
+                            let next = by_checkpoint(process.checkpoint);
+                            processes[at].status = busy(next, seen, read_at, tried_at, answer);
+                        }
+                        // V3 (R123).
+                        8 => {
+                            let now = word_now(operations, k, words);
+                            let next = by_bit(me, now, process.kept.bit);
+                            processes[at].status = busy(next, now, read_at, tried_at, answer);
+                        }
+                        // V4 (R124).
+                        9 => {
+                            let kind = runfile::kind_of(operations.row(k));
+                            processes[at] = Process {
+                                status: busy(Stage::V5, seen, read_at, tried_at, answer),
+                                stored: Some(swap_says(kind, process.kept.value)),
+                                ..process
+                            };
+                        }
+                        // A6, V5 and V6, with the answer row (R116, R125, R126, R163).
+                        _ => {
+                            let said = reply_of(number, answer, process.stored);
+                            processes[at] = Process {
+                                status: Status::Idle,
+                                opened: None,
+                                ..process
+                            };
+                            answers.push(entry_of(u32::from(position), me, row, said));
+                        }
+                    }
+                }
+            },
+            // A crash: it leaves a process that is down as it is (R130, R142).
+            1 => processes[at].status = Status::Down,
+            // A wake, of a process that is down (R131, R132, R143).
+            2 => {
+                if let Status::Down = process.status {
+                    match process.opened {
+                        None => processes[at].status = Status::Idle,
+                        Some(_) => processes[at].status = busy(Stage::V1, 0, 0, 0, None),
                     }
                 }
             }
             // No action: no such byte is accepted (R73).
             3..=14 => {}
             // A crash of all (R133).
-            _ => {
-                let down = crash_first(processes, present);
-                processes = down;
-            }
+            _ => processes = crash_first(processes, part.present),
         }
     }
-    let reached = from_position + schedule.len();
     Standing {
         processes,
-        position: reached,
-        log: log_rows,
-        answers: answer_rows,
+        position: from.position + schedule.len(),
+        log: log.count,
+        answers: answers.count,
     }
 }
