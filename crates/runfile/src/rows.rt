@@ -155,8 +155,8 @@ impl Rows<'_> {
     pub fn first_below(&self) -> Option<usize>
         ensures { result ≡ first_later_row self.now.stride self.now.start self.now.count (below self.now.stride self.now.file.now self.now.start) }
     {
-        let k = (1..self.count).find(|k| self.is_below(*k))?;
-        Some(self.place(k))
+        let below = (1..self.count).find(|k| self.is_below(*k))?;
+        Some(self.place(below))
     }
 
     // Refusal 11: the first row that compares and has old and new alike (R51).

@@ -9,6 +9,7 @@ const WIDTH: u32 = 32;
 
 const VALUES: u64 = 1 << WIDTH;
 
+#[tactic(auto, unfolding(crate::specs::Word::value_in))]
 pub fn value_of(word: u64) -> u32
     ensures { Valued word result }
 {
@@ -16,6 +17,7 @@ pub fn value_of(word: u64) -> u32
 }
 
 // The flip bits of all processes as one number (R192).
+#[tactic(auto, unfolding(crate::specs::Word::flips_in))]
 pub fn flips_of(word: u64) -> u32
     ensures { HasFlips word result }
 {
@@ -37,13 +39,13 @@ pub fn swapped_of(process: u32, new: u32, word: u64) -> u64
 {
     let own = 1u64 << (WIDTH + process);
     let turned = word ^ own;
-    let value = value_of(turned) as u64;
-    turned - value + new as u64
+    let value = u64::from(value_of(turned));
+    turned - value + u64::from(new)
 }
 
 // A value moved on by an amount: past the largest value it goes round to 0, as the sequence numbers of TCP do (R117).
 pub fn sum_of(value: u32, amount: u32) -> u32
     ensures { Summed value amount result }
 {
-    std::num::wrapping_add_u32(value, amount)
+    value.wrapping_add(amount)
 }

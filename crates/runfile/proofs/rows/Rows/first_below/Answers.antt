@@ -10,20 +10,20 @@ pub place-requires : goal.place-requires
 place-requires c =
     let r = c.args.self.now in
     let t = below r.stride r.file.now r.start in
-    (first_from_Range _ _ _ (Some c.in_ok-k.k) (λ k. t k ≡ true) (λ k. t k ≡ false) c.in_ok-k.ensures.ran (λ x q k. search (rules, tests)) (λ x q k. search (rules, tests))).1
+    (first_from_Range _ _ _ (Some c.in_ok-below.below) (λ k. t k ≡ true) (λ k. t k ≡ false) c.in_ok-below.ensures.ran (λ x q k. search (rules, tests)) (λ x q k. search (rules, tests))).1
 
 pub returns : goal.returns
 unfolding first_later_row
 returns c =
     let r = c.args.self.now in
     let t = below r.stride r.file.now r.start in
-    let found = first_from_Range _ _ _ (Some c.in_ok-k.k) (λ k. t k ≡ true) (λ k. t k ≡ false) c.in_ok-k.ensures.ran (λ x q k. search (rules, tests)) (λ x q k. search (rules, tests)) in
-    rw c.place.ensures.0 (first_in (row_place r.stride r.start) t 1 r.count (r.count - 1) refl (Some c.in_ok-k.k) found)
+    let found = first_from_Range _ _ _ (Some c.in_ok-below.below) (λ k. t k ≡ true) (λ k. t k ≡ false) c.in_ok-below.ensures.ran (λ x q k. search (rules, tests)) (λ x q k. search (rules, tests)) in
+    rw c.place.ensures.0 (first_in (row_place r.stride r.start) t 1 r.count (r.count - 1) refl (Some c.in_ok-below.below) found)
 
-pub returns-in_err-k : goal.returns-in_err-k
+pub returns-in_err-below : goal.returns-in_err-below
 unfolding first_later_row
-returns-in_err-k c =
+returns-in_err-below c =
     let r = c.args.self.now in
     let t = below r.stride r.file.now r.start in
-    let found = first_from_Range _ _ _ None (λ k. t k ≡ true) (λ k. t k ≡ false) c.in_err-k.ensures.ran (λ x q k. search (rules, tests)) (λ x q k. search (rules, tests)) in
+    let found = first_from_Range _ _ _ None (λ k. t k ≡ true) (λ k. t k ≡ false) c.in_err-below.ensures.ran (λ x q k. search (rules, tests)) (λ x q k. search (rules, tests)) in
     rw c.from_residual.ensures (first_in (row_place r.stride r.start) t 1 r.count (r.count - 1) refl None found)

@@ -1,13 +1,9 @@
 -- `bit_of` meets its contract: bit `width` + p of the word (`bit_stands`), as a shift reads it (`bit_of-div`).
-use Rattle.std.proofs.Common.{◌+◌, sym, ◌∙◌, rules}
+use Rattle.std.proofs.Common.{◌+◌, sym, ◌∙◌}
 use Rattle.word.specs.Word.{width}
 use Rattle.word.specs.Bits.{bit_of-div}
 use Rattle.word.specs.Laws.{bit_stands}
-use Rattle.word.proofs.bit_of.Statement.{statement}
-use Rattle.word.proofs.bit_of.Tie as tie
+use Rattle.word.proofs.bit_of.Goals as goal
 
-returns : tie.Need-returns
+pub returns : goal.returns
 returns c = let a = c.args in sym (bit_stands width a.process a.word ∙ bit_of-div (width + a.process) a.word)
-
-pub bit_of_spec : {M : Type 1} → statement M
-bit_of_spec = tie.close (tie.spec (λ c. search rules) (λ c. search rules) (λ c. search rules) returns)
