@@ -4,29 +4,25 @@ ghost use Rattle.runfile.specs.Format.{head_size, word_size, row_size, RowSize, 
 
 use super::Field;
 
+#[tactic(auto, unfolding(crate::specs::Format::head_size))]
 pub fn head_size(version: u16) -> usize
     ensures { (result ≡ head_size version) × (result ≤ 13) }
 {
     11
 }
 
+#[tactic(auto, unfolding(crate::specs::Format::word_size))]
 pub fn word_size(version: u16) -> usize
     ensures { (result ≡ word_size version) × (4 ≤ result) × (result ≤ 8) }
 {
-    if version == 1 {
-        return 4;
-    }
-    8
+    if version == 1 { 4 } else { 8 }
 }
 
 // How many bytes it is from one row to the next.
 pub fn row_size(version: u16) -> usize
     ensures { (result ≡ row_size version) × RowSize result }
 {
-    if version == 1 {
-        return 8;
-    }
-    12
+    if version == 1 { 8 } else { 12 }
 }
 
 // Where new stands in a row of this size, behind old.
@@ -34,10 +30,7 @@ pub fn row_size(version: u16) -> usize
 pub fn new_place(stride: usize) -> usize
     ensures { (result ≡ new_place stride) × (result ≤ 8) }
 {
-    if stride == 8 {
-        return 6;
-    }
-    8
+    if stride == 8 { 6 } else { 8 }
 }
 
 // Where a field's first byte stands in a row of this size.

@@ -18,8 +18,8 @@ ghost use Rattle.runfile.specs.Refusals.{refused_text, unknown_version, out_of_r
 ghost use Rattle.runfile.specs.Promises.{Decides, DecidesFile, Numbers};
 
 pub use kinds::kind_of;
-use read::{has_mark, header_of, length_given};
 pub use operations::{Operations, firsts_of};
+use read::{has_mark, header_of};
 pub use read::{
     header_or_zeros, index8, index16, rows_start, schedule_start, stride_of, u32_at, word_at,
 };
@@ -33,7 +33,7 @@ use std::fmt;
 pub const ENOUGH_BYTES: usize = 7308;
 
 // What the first eleven bytes give, after the mark (R2).
-#[derive(Clone, Copy, Debug, PartialEq, Eq)]
+#[derive(Clone, Copy, Debug, Default, PartialEq, Eq)]
 pub struct Header {
     pub version: u16,
     pub processes: u8,
@@ -50,7 +50,7 @@ pub enum Kind {
     Advance,
 }
 
-// An operation, with the number of its kind. Old and new of version 1, of two bytes each, are widened (R10).
+// An operation, with the number of its kind, since refusal 9 speaks of rows with any number there (R49b). Old and new of version 1, of two bytes each, are widened (R10).
 #[derive(Clone, Copy, Debug, PartialEq, Eq)]
 pub struct Row {
     pub process: u8,
@@ -206,7 +206,7 @@ fn check_head(file: &[u8], header: Header) -> Result<Header, Refused>
         return Err(Refused::whole(Refusal::Mark));
     }
     check_counts(header)?;
-    if file.len() != length_given(header) {
+    if file.len() != header.length_given() {
         return Err(Refused::whole(Refusal::Length));
     }
     Ok(header)
@@ -236,7 +236,7 @@ fn check_body(file: &[u8], header: Header) -> Result<Header, Refused>
             place,
         });
     }
-    let start = schedule_start(header);
+    let start = header.schedule_start();
     if let Some(place) = first_bad_byte(&file[start..], start, header.processes) {
         return Err(Refused {
             why: Refusal::Action,
@@ -281,7 +281,7 @@ pub fn check(file: &[u8], room: Room) -> Result<Header, Refused>
     ensures { Decides file.now room result }
 {
     let header = check_file(file)?;
-    let start = schedule_start(header);
+    let start = header.schedule_start();
     if let Some(place) = first_idle(&file[start..], start) {
         return Err(Refused {
             why: Refusal::Idle,

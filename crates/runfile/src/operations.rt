@@ -6,7 +6,7 @@ ghost use Rattle.runfile.specs.Promises.{RowRead, RowWord, RowsLent};
 ghost use Rattle.runfile.specs.Shares.{Lined, Counted, Summed, sum_to};
 
 use super::format::new_place;
-use super::read::{number_at, rows_start, stride_of};
+use super::read::number_at;
 use super::{Header, Row};
 
 // A table of rows: its bytes, how many of them it is from one row to the next, and how many rows there are (R7).
@@ -23,10 +23,10 @@ impl<'a> Operations<'a> {
         requires { rows_start header ≤ length file.now }
         ensures { RowsLent header file.now result.table.now result.stride result.count }
     {
-        let start = rows_start(header);
+        let start = header.rows_start();
         Operations {
             table: &file[start..],
-            stride: stride_of(header),
+            stride: header.stride(),
             count: usize::from(header.rows),
         }
     }
@@ -34,6 +34,7 @@ impl<'a> Operations<'a> {
 
 impl Operations<'_> {
     // Row k.
+    #[tactic(auto, unfolding(crate::specs::Layout::row_at))]
     pub fn row(self, k: usize) -> Row
         requires { HasRow self.stride self.table.now k }
         ensures { RowRead self.entry.stride self.entry.table.now k result }
@@ -50,6 +51,7 @@ impl Operations<'_> {
     }
 
     // Of row k alone the process, and alone the word.
+    #[tactic(auto, unfolding(crate::specs::Layout::row_at))]
     pub fn process(self, k: usize) -> u8
         requires { HasRow self.stride self.table.now k }
         ensures { result ≡ (row_of_table self.entry.stride self.entry.table.now k).process }
@@ -57,6 +59,7 @@ impl Operations<'_> {
         self.table[k * self.stride]
     }
 
+    #[tactic(auto, unfolding(crate::specs::Layout::row_at))]
     pub fn word(self, k: usize) -> u8
         requires { HasRow self.stride self.table.now k }
         ensures { RowWord self.entry.stride self.entry.table.now k result }

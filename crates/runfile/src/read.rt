@@ -53,14 +53,16 @@ pub fn u64_at(file: &[u8], at: usize) -> u64
 }
 
 // Old or new of a row of this size.
+#[tactic(auto, unfolding(crate::specs::Layout::number_at, crate::specs::Format::number_size))]
 pub fn number_at(file: &[u8], at: usize, stride: usize) -> u32
     requires { at + number_size stride ≤ length file.now }
     ensures { result ≡ number_at stride file.now at }
 {
     if stride == 8 {
-        return u32::from(u16_at(file, at));
+        u32::from(u16_at(file, at))
+    } else {
+        u32_at(file, at)
     }
-    u32_at(file, at)
 }
 
 #[tactic(auto, using(crate::proofs::Numbers::mark_stands))]
@@ -71,6 +73,7 @@ pub fn has_mark(file: &[u8]) -> bool
     file.starts_with(b"SWR")
 }
 
+#[tactic(auto, unfolding(crate::specs::Layout::header_in))]
 pub fn header_of(file: &[u8]) -> Header
     requires { least_head ≤ length file.now }
     ensures { result ≡ header_in file.now }
@@ -85,17 +88,12 @@ pub fn header_of(file: &[u8]) -> Header
 }
 
 // The header of any file: one that is too short to have a header gives zeros.
+#[tactic(auto, unfolding(crate::specs::Promises::header_or_zeros))]
 pub fn header_or_zeros(file: &[u8]) -> Header
     ensures { HeaderOrZeros file.now result }
 {
     if file.len() < 11 {
-        return Header {
-            version: 0,
-            processes: 0,
-            words: 0,
-            rows: 0,
-            steps: 0,
-        };
+        return Header::default();
     }
     header_of(file)
 }
@@ -115,31 +113,54 @@ pub fn word_at(file: &[u8], header: Header, i: usize) -> u64
 {
     let at = head_size(header.version) + i * word_size(header.version);
     if header.version == 1 {
-        return widen(u32_at(file, at));
+        widen(u32_at(file, at))
+    } else {
+        u64_at(file, at)
     }
-    u64_at(file, at)
+}
+
+impl Header {
+    // How many bytes it is from one row to the next (R7).
+    pub fn stride(self) -> usize
+        ensures { Stride self result }
+    {
+        row_size(self.version)
+    }
+
+    pub fn rows_start(self) -> usize
+        ensures { RowsStart self result }
+    {
+        head_size(self.version) + usize::from(self.words) * word_size(self.version)
+    }
+
+    pub fn schedule_start(self) -> usize
+        ensures { ScheduleStart self result }
+    {
+        self.rows_start() + usize::from(self.rows) * self.stride()
+    }
+
+    // The length that the header gives its file (R8).
+    pub fn length_given(self) -> usize
+        ensures { result ≡ length_given self }
+    {
+        self.schedule_start() + usize::from(self.steps)
+    }
 }
 
 pub fn stride_of(header: Header) -> usize
     ensures { Stride header result }
 {
-    row_size(header.version)
+    header.stride()
 }
 
 pub fn rows_start(header: Header) -> usize
     ensures { RowsStart header result }
 {
-    head_size(header.version) + usize::from(header.words) * word_size(header.version)
+    header.rows_start()
 }
 
 pub fn schedule_start(header: Header) -> usize
     ensures { ScheduleStart header result }
 {
-    rows_start(header) + usize::from(header.rows) * stride_of(header)
-}
-
-pub fn length_given(header: Header) -> usize
-    ensures { result ≡ length_given header }
-{
-    schedule_start(header) + usize::from(header.steps)
+    header.schedule_start()
 }

@@ -5,7 +5,7 @@ ghost use Rattle.runfile.specs.Layout.{length_given, RowsOf, number_at, row_at, 
 ghost use Rattle.runfile.specs.Refusals.{bad_kind, zero_old, zero_new, bad_number, bad_field, same_fields, below, same, first_bad_field, first_row, first_later_row};
 
 use super::format::{new_place, offset_of};
-use super::read::{number_at, rows_start, stride_of};
+use super::read::number_at;
 use super::{Field, Header, Kind};
 
 // The rows of a file that has them whole: where they begin, how many bytes it is from one to the next, and how many there are (R7).
@@ -61,8 +61,8 @@ impl<'a> Rows<'a> {
     {
         Rows {
             file,
-            start: rows_start(header),
-            stride: stride_of(header),
+            start: header.rows_start(),
+            stride: header.stride(),
             count: usize::from(header.rows),
         }
     }
@@ -87,6 +87,7 @@ impl Rows<'_> {
     }
 
     // Refusal 9, of one field of the row at a place (R49a to R49f).
+    #[tactic(auto, unfolding(crate::specs::Refusals::bad_field, crate::specs::Layout::row_at))]
     fn is_bad_field(&self, at: usize, field: Field, header: Header) -> bool
         requires { at + self.now.stride ≤ length self.now.file.now }
         ensures { result ≡ bad_field header (row_at self.now.stride self.now.file.now at) (zero_byte_at self.now.file.now at) field }
@@ -109,6 +110,7 @@ impl Rows<'_> {
     }
 
     // Refusal 10, of a row that has one in front of it (R50).
+    #[tactic(auto, using(crate::proofs::Below::below_read))]
     fn is_below(&self, k: usize) -> bool
         requires { (0 < k) × (k < self.now.count) }
         ensures { result ≡ below self.now.stride self.now.file.now self.now.start k }
@@ -118,6 +120,7 @@ impl Rows<'_> {
     }
 
     // Refusal 11, of one row (R51).
+    #[tactic(auto, unfolding(crate::specs::Refusals::same_fields, crate::specs::Layout::row_at))]
     fn is_same(&self, k: usize) -> bool
         requires { k < self.now.count }
         ensures { result ≡ same self.now.stride self.now.file.now self.now.start k }

@@ -7,6 +7,6 @@ pub returns-then-version-eq1 : goal.returns-then-version-eq1
 unfolding row_size
 returns-then-version-eq1 c = (simp (eq-eqb _ _ c.if-version-eq1.true), row-narrow)
 
-pub returns : goal.returns
+pub returns-else-version-eq1 : goal.returns-else-version-eq1
 unfolding row_size
-returns c = (simp (ne_eqb _ _ c.if-version-eq1.false), row_wide)
+returns-else-version-eq1 c = (simp (ne_eqb _ _ c.if-version-eq1.false), row_wide)
