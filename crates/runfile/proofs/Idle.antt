@@ -1,7 +1,6 @@
--- What refusal 16 says of a byte, by the high four bits that the code's matches have; and the table of sixteen that the code keeps says who is up:
--- a byte changes in it what the fold over the bytes changes.
+-- The table of sixteen that the search for refusal 16 keeps says who is up: a byte changes in it what the fold over the bytes changes.
 use mathlib.Core.Path.{◌≡◌, refl, sym, ap, ◌∙◌}
-use mathlib.Core.Bool.{Bool, true, false, not, cond}
+use mathlib.Core.Bool.{Bool, true, false, cond}
 use mathlib.Core.List.{List, []}
 use Prim.Native.Nat.{ℕ, ◌+◌, ◌/◌, ◌<◌}
 use native.Mathlib.Numerals.{add-one}
@@ -10,27 +9,10 @@ use lib.Dec.{eqb}
 use lib.ListN.{length, get_or, take, set, length-set, replicate, get_or-replicate}
 use lib.Seq.{get_or-set_same, get_or-set_other}
 use borrow.Author.Tests.{eqb-true, eqb-false, ne_eqb}
-use Rattle.runfile.specs.Actions.{step, crash_all, none, action_of, action, named}
+use Rattle.runfile.specs.Actions.{step, none, action, named}
 use Rattle.runfile.specs.Ups.{up_as, up_by, up_from, is_up, up_next, idle_by, idles}
 use Rattle.runfile.specs.Refusals.{offends_at, first_offender}
 use Rattle.runfile.proofs.First.{From, miss}
-
-module _ (high : ℕ) (up : Bool) where
-  pub idle-step : high ≡ 0 → false ≡ idle_by (action_of high) up
-  idle-step e = rw e
-
-  pub idle_crash : high ≡ 1 → not up ≡ idle_by (action_of high) up
-  idle_crash e = rw e
-
-  pub idle_wake : high ≡ 2 → up ≡ idle_by (action_of high) up
-  idle_wake e = rw e
-
-  pub idle_other : (high ≡ 0 → ⊥) → (high ≡ 1 → ⊥) → (high ≡ 2 → ⊥) → false ≡ idle_by (action_of high) up
-  idle_other a b c = rw (ne_eqb high 0 a, ne_eqb high 1 b, ne_eqb high 2 c) (go (eqb high 15))
-    where
-      go : (all : Bool) → false ≡ idle_by (cond all crash_all none) up
-      go true = refl
-      go false = refl
 
 -- a byte that is not idle leaves the search to the later ones
 pub missed : (start : ℕ) (schedule : List ℕ) (i : ℕ) → i < length schedule → offends_at idles schedule i ≡ false

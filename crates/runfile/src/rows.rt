@@ -11,10 +11,10 @@ use super::{Field, Header, Kind};
 // The rows of a file that has them whole: where they begin, how many bytes it is from one to the next, and how many there are (R7).
 #[derive(Clone, Copy)]
 pub struct Rows<'a> {
-    pub file: &'a [u8],
-    pub start: usize,
-    pub stride: usize,
-    pub count: usize,
+    file: &'a [u8],
+    start: usize,
+    stride: usize,
+    count: usize,
     ghost size: { RowSize stride } by { RowSize-prop stride },
     ghost whole: { row_place stride start count ≤ length file.now },
 }
