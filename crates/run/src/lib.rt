@@ -10,7 +10,8 @@ ghost use Rattle.run.specs.Run.{end_of, room_of, Ends, EndsAs};
 
 use engine::{Part, Standing};
 pub use load::load_words;
-use runfile::{Header, Refused, Room};
+use machine::Process;
+use runfile::{Header, Operations, Refused, Room};
 
 // How many rows stand in the log and in the answers.
 #[derive(Clone, Copy, Debug, PartialEq, Eq)]
@@ -31,33 +32,19 @@ fn run_words(
     requires { (length words.old ≡ header.words) × Lawful header file.now (room_of words.old log.old answers.old) }
     ensures { Holds (end_of header file.now) log.old answers.old result.log result.answers words.new log.new answers.new }
 {
-    let rows = runfile::index16(header.rows);
-    let present = runfile::index8(header.processes);
-    let stride = runfile::stride_of(header);
-    let rows_at = runfile::rows_start(header);
-    let schedule_at = runfile::schedule_start(header);
     load_words(file, header, words);
-    let idle = machine::fresh();
-    let from = Standing {
-        processes: [idle; 16],
-        position: 0,
-        log: 0,
-        answers: 0,
-    };
     let part = Part {
-        stride,
-        rows,
-        present,
-        from,
+        present: usize::from(header.processes),
+        from: Standing {
+            processes: [Process::fresh(); 16],
+            position: 0,
+            log: 0,
+            answers: 0,
+        },
     };
-    let left = engine::run_bytes(
-        &file[rows_at..],
-        &file[schedule_at..],
-        words,
-        log,
-        answers,
-        part,
-    );
+    let operations = Operations::of(file, header);
+    let start = header.schedule_start();
+    let left = engine::run_bytes(operations, &file[start..], words, log, answers, part);
     Counts {
         log: left.log,
         answers: left.answers,
@@ -76,7 +63,7 @@ fn run_accepted(
     ensures { EndsAs (Ok header) file.now words.old log.old answers.old
         (Ok result) words.new log.new answers.new }
 {
-    let count = runfile::index8(header.words);
+    let count = usize::from(header.words);
     run_words(file, header, &mut words[..count], log, answers)
 }
 

@@ -9,9 +9,7 @@ pub fn load_words(file: &[u8], header: Header, words: &mut [u64])
     requires { word_place header.version (length words.old) ≤ length file.now }
     ensures { Loaded file.now header words.old words.new }
 {
-    let mut i = 0;
-    while i < words.len() {
+    for i in 0..words.len() {
         words[i] = runfile::word_at(file, header, i);
-        i += 1;
     }
 }

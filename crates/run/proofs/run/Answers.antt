@@ -1,5 +1,5 @@
 -- `run` meets its contract: what the check refuses leaves everything as it was, and what it accepts is lawful.
-use mathlib.Core.Path.{refl, sym, ◌∙◌}
+use mathlib.Core.Path.{sym, ◌∙◌}
 use Rattle.runfile.proofs.Promises.{decides_lawful}
 use Rattle.run.proofs.run.Goals as goal
 

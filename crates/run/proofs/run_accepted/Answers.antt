@@ -13,16 +13,16 @@ part_size : (words : List ℕ) (count n : ℕ) → n ≡ count → count ≤ len
 part_size words count n e room = length-take-le n words (omega arith)
 
 pub slice_bounds-run_words-end-2 : goal.slice_bounds-run_words-end-2
-slice_bounds-run_words-end-2 c = sym (part_size _ _ _ c.index8-count.ensures.0 c.requires.words_room)
+slice_bounds-run_words-end-2 c = sym (part_size _ _ _ c.from-count.ensures c.requires.words_room)
 
 pub run_words-requires : goal.run_words-requires
 run_words-requires c =
     let a = c.args in
-    let size = part_size _ _ _ c.index8-count.ensures.0 c.requires.words_room ∙ c.index8-count.ensures.0 in
-    (size, part_lawful a.header a.file.now a.words.now a.log.now a.answers.now c.requires (take c.index8-count.result a.words.now) size)
+    let size = part_size _ _ _ c.from-count.ensures c.requires.words_room ∙ c.from-count.ensures in
+    (size, part_lawful a.header a.file.now a.words.now a.log.now a.answers.now c.requires (take c.from-count.result a.words.now) size)
 
 pub returns : goal.returns
 returns c =
     let a = c.args in
     let new = c.run_words.new.words in
-    finish a.header a.file.now a.words.now a.log.now a.answers.now c.requires _ _ new _ _ _ c.run_words.ensures (ap (λ (n : ℕ). new ++ drop n a.words.now) c.index8-count.ensures.0)
+    finish a.header a.file.now a.words.now a.log.now a.answers.now c.requires _ _ new _ _ _ c.run_words.ensures (ap (λ (n : ℕ). new ++ drop n a.words.now) c.from-count.ensures)

@@ -16,9 +16,9 @@ load_words-requires c =
 pub run_bytes-left-requires : goal.run_bytes-left-requires
 run_bytes-left-requires c =
     let a = c.args in
-    asked a.header a.file.now a.words.now a.log.now a.answers.now c.requires.1 _ _ _ _ _ _ _ c.stride_of-stride.ensures.0 c.rows_start-rows_at.ensures.0 c.index16-rows.ensures.0 c.schedule_start-schedule_at.ensures.0 c.index8-present.ensures.0 c.load_words.ensures c.requires.0 c.fresh-idle.ensures
+    asked a.header a.file.now a.words.now a.log.now a.answers.now c.requires.1 c.of-operations.result c.of-operations.ensures _ _ _ _ c.schedule_start-start.ensures.0 c.from.ensures c.load_words.ensures c.requires.0 c.fresh.ensures
 
 pub returns : goal.returns
 returns c =
     let a = c.args in
-    told a.header a.file.now a.words.now a.log.now a.answers.now c.requires.1 _ _ _ _ _ _ _ c.stride_of-stride.ensures.0 c.rows_start-rows_at.ensures.0 c.index16-rows.ensures.0 c.schedule_start-schedule_at.ensures.0 c.index8-present.ensures.0 c.load_words.ensures c.requires.0 c.fresh-idle.ensures _ _ _ _ c.run_bytes-left.ensures
+    told a.header a.file.now a.words.now a.log.now a.answers.now c.requires.1 c.of-operations.result c.of-operations.ensures _ _ _ _ c.schedule_start-start.ensures.0 c.from.ensures c.load_words.ensures c.requires.0 c.fresh.ensures _ _ _ _ c.run_bytes-left.ensures

@@ -1,13 +1,9 @@
--- `load_words` meets its contract. Invariant: the first i start words stand in front. Measure: the words left.
+-- `load_words` meets its contract. Invariant: the first i start words stand in front.
 use Rattle.rows.specs.Buffers.{infront}
 use Rattle.runfile.specs.Operations.{words_from}
 use lib.ListN.{length}
-use Prim.Native.Nat.{◌≤◌, ◌-◌}
 use mathlib.Core.Path.{◌≡◌}
 use Rattle.run.proofs.load.load_words.Given as goal
 
 abbrev pub invariant-loop-i : goal.invariant-loop-i
-invariant-loop-i l = (l.i ≤ length l.initial.words) × (length l.words ≡ length l.initial.words) × (l.words ≡ infront (words_from l.header.version l.file l.i) l.initial.words)
-
-abbrev pub decreases-loop-i : goal.decreases-loop-i
-decreases-loop-i l = length l.initial.words - l.i
+invariant-loop-i l = (length l.words ≡ length l.initial.words) × (l.words ≡ infront (words_from l.header.version l.file l.i) l.initial.words)
