@@ -1,21 +1,20 @@
--- The search for a record that cannot be: one record more.
-use Prim.Native.Nat.{ℕ, suc, ◌+◌, ◌-◌, ◌<◌}
-use mathlib.Core.Path.{◌≡◌, ap, ◌∙◌}
-use mathlib.Core.Bool.{◌||◌}
-use mathlib.Core.List.{List}
-use native.Mathlib.Omega.{arith}
-use lib.ListN.{get_or}
+-- The search for a record that cannot be, over the numbers of the processes.
+use Rattle.std.specs.Prelude.{ℕ, zero, suc, ◌+◌, ◌<◌, ◌≡◌, refl, Bool, ◌||◌, List, get_or}
+use Rattle.std.proofs.Common.{ap, ◌∙◌, arith}
+use Rattle.std.specs.List.{range_with_len, list_any}
 use Rattle.runfile.specs.declared.Row.{Row}
 use Rattle.machine.specs.declared.Process.{Process}
 use Rattle.machine.specs.Records.{nobody}
 use Rattle.panel.specs.Possible.{impossible, any_impossible}
 
-pub any_turn : (rows : List Row) (ps : List Process) (p present : ℕ) → p < present
-    → any_impossible rows ps p (present - p) ≡ (impossible rows p (get_or ps p nobody) || any_impossible rows ps (p + 1) (present - (p + 1)))
+-- a test that says of each number of the range whether that record cannot be
+pub any_tested : (rows : List Row) (ps : List Process) (test : ℕ → Bool) (from n : ℕ) → ((p : ℕ) → p < from + n → test p ≡ impossible rows p (get_or ps p nobody))
+    → list_any test (range_with_len from n) ≡ any_impossible rows ps from n
 unfolding any_impossible
-any_turn rows ps p present h =
-    let e : present - p ≡ suc (present - (p + 1)) = omega arith in
-    ap (any_impossible rows ps p) e ∙ ap (λ q. impossible rows p (get_or ps p nobody) || any_impossible rows ps q (present - (p + 1))) (sym_one p)
+any_tested rows ps test from zero h = refl
+any_tested rows ps test from (suc n) h =
+    ap (λ b. b || list_any test (range_with_len (from + 1) n)) (h from (omega arith))
+    ∙ ap (λ b. impossible rows from (get_or ps from nobody) || b) (any_tested rows ps test (from + 1) n (λ p l. h p (omega arith)) ∙ ap (λ q. any_impossible rows ps q n) (next from))
   where
-    sym_one : (p : ℕ) → suc p ≡ p + 1
-    sym_one p = omega arith
+    next : (p : ℕ) → p + 1 ≡ suc p
+    next p = omega arith

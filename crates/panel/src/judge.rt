@@ -52,12 +52,7 @@ fn any_impossible(
 {
     let counts = runfile::counts_of(table, stride, n);
     let firsts = runfile::firsts_of(counts);
-    for p in 0..present {
-        if is_impossible(table, stride, n, firsts[p], counts[p], processes[p]) {
-            return true;
-        }
-    }
-    false
+    (0..present).any(|p| is_impossible(table, stride, n, firsts[p], counts[p], processes[p]))
 }
 
 // Every refusal but the file's own is at place 0 (R31).

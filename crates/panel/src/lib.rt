@@ -21,7 +21,7 @@ use press::press;
 use run::Counts;
 
 // A key as it is struck: the byte, its position, and how many rows stand in the log and in the answers (R201).
-#[derive(Clone, Copy)]
+#[derive(Clone, Copy, Debug, PartialEq, Eq)]
 pub struct Stroke {
     pub byte: u8,
     pub position: usize,
@@ -87,7 +87,7 @@ impl fmt::Display for Refused {
 impl Error for Refused {}
 
 // Sixteen records by value, of which the first `held` are the caller's.
-#[derive(Clone, Copy)]
+#[derive(Clone, Copy, Debug, PartialEq, Eq)]
 pub struct Table {
     pub processes: [Process; 16],
     pub held: usize,

@@ -1,57 +1,46 @@
--- `any_impossible` meets its contract: a turn tests one record more, with the two tables at its process.
-use Rattle.std.proofs.Common.{◌≡◌, refl, sym, ap, ◌∙◌, ℕ, ◌-◌, ◌<◌, Bool, ◌||◌, List, arith}
+-- `any_impossible` meets its contract: the closure tests a record, with the two tables at its process.
+use Rattle.std.proofs.Common.{rules, tests, refl, ◌≡◌, ◌∙◌, ℕ, ◌+◌, ◌≤◌, ◌<◌, Bool, ◌||◌, List, get_or, arith}
+use Rattle.std.proofs.lemmas.Iterator.{YieldsList-from_range, serves_from_Range}
+use Rattle.std.proofs.lemmas.Iterator.Search.{any_from_yields_List}
 use Rattle.runfile.specs.declared.Row.{Row}
 use Rattle.runfile.specs.Kinds.{kind_of}
-use Rattle.runfile.specs.Operations.{rows_from, row_numbered, first, count}
+use Rattle.runfile.specs.Operations.{rows_from, row_numbered}
 use Rattle.runfile.specs.OperationLaws.{length-rows_from}
-use Rattle.runfile.specs.Shares.{last_fits, first-at, sum_fits}
+use Rattle.runfile.specs.Shares.{Counted, Summed, last_fits, first-at, sum_fits}
 use Rattle.machine.specs.declared.Process.{Process}
-use Rattle.machine.specs.Records.{row_open}
-use Rattle.panel.specs.Possible.{misplaced, misdone, impossible, any_impossible}
-use Rattle.panel.proofs.Ors.{or_hit, or_miss}
-use Rattle.panel.proofs.Search.{any_turn}
+use Rattle.machine.specs.Records.{nobody, row_open}
+use Rattle.panel.specs.Possible.{misplaced, misdone, impossible}
+use Rattle.panel.proofs.Search.{any_tested}
 use Rattle.panel.proofs.judge.any_impossible.Goals as goal
 
--- what the record's test says
-tested : (rows : List Row) (p f n : ℕ) (r : Process) (b : Bool) → f ≡ first rows p → n ≡ count rows p
-    → b ≡ (misplaced f n r || misdone (kind_of (row_numbered rows (row_open r.opened))) r) → b ≡ impossible rows p r
+-- what the closure tests: the record, with the two tables at its process
+abbrev test : List Row → (firsts counts : List ℕ) → List Process → ℕ → Bool
+test rows firsts counts ps p = let r = get_or ps p nobody in misplaced (get_or firsts p 0) (get_or counts p 0) r || misdone (kind_of (row_numbered rows (row_open r.opened))) r
+
+tested : (rows : List Row) (firsts counts : List ℕ) (ps : List Process) (p : ℕ) → Counted rows counts → Summed counts firsts → p < 16 → test rows firsts counts ps p ≡ impossible rows p (get_or ps p nobody)
 unfolding impossible
-tested rows p f n r b e q h = rw (e, q) at h
+tested rows firsts counts ps p c s low = rw (first-at rows counts firsts c s p low, c.each p low) refl
+
+-- its rows are in the table
+in_table : (stride : ℕ) (table : List ℕ) (n : ℕ) (firsts counts : List ℕ) (p : ℕ) → Counted (rows_from stride table 0 n) counts → Summed counts firsts → p < 16 → get_or firsts p 0 + get_or counts p 0 ≤ n
+in_table stride table n firsts counts p c s low =
+    let rows = rows_from stride table 0 n in
+    omega (arith, first-at rows counts firsts c s p low, c.each p low, last_fits rows p, length-rows_from stride table 0 n)
 
 pub firsts_of-firsts-requires : goal.firsts_of-firsts-requires
 firsts_of-firsts-requires c = sum_fits c.args.stride c.args.table.now c.args.n _ c.requires.1.few c.counts_of-counts.ensures
 
-pub is_impossible-requires : goal.is_impossible-requires
-is_impossible-requires c =
-    let rows = rows_from c.args.stride c.args.table.now 0 c.args.n in
-    let low : c.loop-p.p < 16 = omega (arith, c.requires.0) in
-    let e = first-at rows _ _ c.counts_of-counts.ensures c.firsts_of-firsts.ensures c.loop-p.p low in
-    let q = c.counts_of-counts.ensures.each c.loop-p.p low in
-    let f = last_fits rows c.loop-p.p in
-    let g = length-rows_from c.args.stride c.args.table.now 0 c.args.n in
-    (c.requires.1.size, c.requires.1.whole, rw (e, q) (omega arith))
-
-pub returns-then-is_impossible : goal.returns-then-is_impossible
-returns-then-is_impossible c =
-    let rows = rows_from c.args.stride c.args.table.now 0 c.args.n in
-    let low : c.loop-p.p < 16 = omega (arith, c.requires.0) in
-    let e = first-at rows _ _ c.counts_of-counts.ensures c.firsts_of-firsts.ensures c.loop-p.p low in
-    let q = c.counts_of-counts.ensures.each c.loop-p.p low in
-    or_hit _ _ (sym (tested rows c.loop-p.p _ _ _ _ e q c.is_impossible.ensures) ∙ c.if-is_impossible.true)
-    ∙ sym (c.loop-p.invariant ∙ any_turn rows _ c.loop-p.p _ c.loop-p-test.true)
-
-pub loop-p-preserved : goal.loop-p-preserved
-loop-p-preserved c =
-    let rows = rows_from c.args.stride c.args.table.now 0 c.args.n in
-    let low : c.loop-p.p < 16 = omega (arith, c.requires.0) in
-    let e = first-at rows _ _ c.counts_of-counts.ensures c.firsts_of-firsts.ensures c.loop-p.p low in
-    let q = c.counts_of-counts.ensures.each c.loop-p.p low in
-    c.loop-p.invariant
-    ∙ any_turn rows _ c.loop-p.p _ (omega arith)
-    ∙ sym (or_miss _ _ _ (sym (tested rows c.loop-p.p _ _ _ _ e q c.is_impossible.ensures) ∙ c.if-is_impossible.false) refl)
+pub any-requires-clause-callable : goal.any-requires-clause-callable
+any-requires-clause-callable c = serves_from_Range (λ x q k. search rules) (λ x from to.
+    let low : x < 16 = omega (arith, c.requires.0) in
+    let fits = in_table _ _ _ _ _ x c.counts_of-counts.ensures c.firsts_of-firsts.ensures low in
+    let size = c.requires.1.size in
+    let whole = c.requires.1.whole in
+    search rules)
 
 pub returns : goal.returns
-unfolding any_impossible
 returns c =
-    let z : c.args.present - c.loop-p.p ≡ 0 = omega arith in
-    sym (c.loop-p.invariant ∙ ap (any_impossible (rows_from c.args.stride c.args.table.now 0 c.args.n) c.args.processes c.loop-p.p) z)
+    let rows = rows_from c.args.stride c.args.table.now 0 c.args.n in
+    let tested_by = test rows c.firsts_of-firsts.result c.counts_of-counts.result c.args.processes in
+    any_from_yields_List tested_by _ _ _ c.any.ensures.ran (YieldsList-from_range 0 c.args.present c.args.present refl (omega arith)) (λ x b q k. search (rules, tests))
+    ∙ any_tested rows c.args.processes tested_by 0 c.args.present (λ p i. tested _ _ _ _ p c.counts_of-counts.ensures c.firsts_of-firsts.ensures (omega (arith, c.requires.0)))
