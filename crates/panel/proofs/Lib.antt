@@ -1,6 +1,5 @@
 pub mod Sixteen
 pub mod Joined
-pub mod Ors
 pub mod Search
 pub mod Whole
 pub mod Fits

@@ -25,6 +25,17 @@ each_possible rows ps from (suc n) p e a b = go (eqb from p) refl (neither (impo
     go true q h more = subst (λ p. impossible rows p (get_or ps p nobody) ≡ false) (eqb-true from p q) h.0
     go false q h more = more h.1 (let n : from ≢ p = eqb-false from p q in omega arith)
 
+-- the open row of a record that is not misplaced is one of its process's
+pub open_inside : (first count : ℕ) (r : Process) (k : ℕ) → r.opened ≡ Some k → misplaced first count r ≡ false → k < first + count
+unfolding misplaced
+open_inside first count r k o h =
+    let a = neither (too_many count r.begun) _ h in
+    let b = neither (not_last first r.begun r.opened) _ a.1 in
+    let n = neither (eqb r.begun 0) (not (eqb (k + 1) (first + r.begun))) (subst (λ o. not_last first r.begun o ≡ false) o b.0) in
+    let few : r.begun ≤ count = ltb-false count r.begun a.0 in
+    let q : k + 1 ≡ first + r.begun = eqb-true (k + 1) (first + r.begun) (not-false (eqb (k + 1) (first + r.begun)) n.1) in
+    omega arith
+
 -- a record that can be is sane
 pub sane_of : (rows : List Row) (p : ℕ) (r : Process) → impossible rows p r ≡ false → Sane rows p r
 unfolding impossible misplaced
@@ -35,18 +46,11 @@ sane_of rows p r e =
     let c = neither (open_while r.opened r.status) _ b.1 in
     let d = neither (none_at r.opened r.status) (none_left (count rows p) r.begun r.status) c.1 in
     record {
-      in_file = λ k o. inside k (subst (λ o. not_last (first rows p) r.begun o ≡ false) o b.0) (ltb-false (count rows p) r.begun a.0);
+      in_file = λ k o. let i = open_inside (first rows p) (count rows p) r k o m in let f = last_fits rows p in omega arith;
       works = at_work_lem r.status r.opened refl d.0;
       left = left r.status d.1;
     }
   where
-    inside : (k : ℕ) → (eqb r.begun 0 || not (eqb (k + 1) (first rows p + r.begun))) ≡ false → r.begun ≤ count rows p → k < length rows
-    inside k h few =
-        let n = neither (eqb r.begun 0) (not (eqb (k + 1) (first rows p + r.begun))) h in
-        let q : k + 1 ≡ first rows p + r.begun = eqb-true (k + 1) (first rows p + r.begun) (not-false (eqb (k + 1) (first rows p + r.begun)) n.1) in
-        let f = last_fits rows p in
-        omega arith
-
     at_work_lem : (st : Status) (o : Option ℕ) → r.opened ≡ o → none_at o st ≡ false → WorkOpen st r.opened
     at_work_lem Down o q h = tt
     at_work_lem Idle o q h = tt

@@ -9,12 +9,13 @@ ghost use Rattle.machine.specs.Records.{row_open, is_awake};
 ghost use Rattle.panel.specs.Possible as possible;
 ghost use Rattle.panel.specs.Press as press;
 
-use super::possible::{misdone, misplaced};
+use super::possible::{misplaced, no_answer, wrong_kind};
 use super::{Refused, Stroke, Table, Why};
 use machine::{Process, Status};
-use runfile::{Header, Kind, Refusal, Room};
+use runfile::{Header, Refusal, Room};
 
 // Whether a record cannot be, whose process has `count` rows from row `first` on (R231b to R231i).
+#[tactic(auto, unfolding(crate::specs::Possible::misdone))]
 fn is_impossible(
     table: &[u8],
     stride: usize,
@@ -26,17 +27,15 @@ fn is_impossible(
     requires { RowSize stride × (n * stride ≤ length table.now) × (first + count ≤ n) }
     ensures { result ≡ (possible.misplaced first count process || possible.misdone (kind_of (row_numbered (rows_from stride table.now 0 n) (row_open process.opened))) process) }
 {
-    if misplaced(first, count, process) {
+    if misplaced(first, count, process) || no_answer(process) {
         return true;
     }
-    match process.opened {
-        // With no row open no kind is asked for (R231i).
-        None => misdone(Kind::Read, process),
-        Some(k) => {
-            let row = runfile::row_at(table, stride, usize::from(k));
-            misdone(runfile::kind_of(row), process)
-        }
-    }
+    // With no row open no kind is asked for (R231i).
+    let Some(k) = process.opened else {
+        return false;
+    };
+    let row = runfile::row_at(table, stride, usize::from(k));
+    wrong_kind(runfile::kind_of(row), process)
 }
 
 // Whether one of the first `present` records cannot be.

@@ -1,5 +1,5 @@
 // Which records the panel refuses under 21, condition by condition (R231b to R231i), as specs/Possible has them.
-ghost use Rattle.std.specs.Prelude.{◌≡◌, ◌+◌, ◌<◌};
+ghost use Rattle.std.specs.Prelude.{◌≡◌, ℕ, Some};
 ghost use Rattle.panel.specs.Possible as possible;
 
 use machine::{Answer, Process, Stage, Status};
@@ -66,7 +66,7 @@ fn none_left(count: u16, process: Process) -> bool
 }
 
 // The stage needs an answer and there is none: A5 and A6 need the answer to store, V5 the stored one (R231g).
-fn no_answer(process: Process) -> bool
+pub fn no_answer(process: Process) -> bool
     ensures { result ≡ possible.no_answer process.stored process.status }
 {
     match process.status {
@@ -105,12 +105,9 @@ pub fn misplaced(first: u16, count: u16, process: Process) -> bool
         || none_left(count, process)
 }
 
-// What is wrong with it by what it does on a row of this kind, and by the answer that is stored for the open row (R231i).
-#[tactic(auto, unfolding(crate::specs::Possible::misdone))]
-pub fn misdone(kind: Kind, process: Process) -> bool
-    ensures { result ≡ possible.misdone kind process }
+// What is wrong with what it does on the row that is open, of this kind: its work, or the answer that is stored (R231i).
+pub fn wrong_kind(kind: Kind, process: Process) -> bool
+    ensures { (k : ℕ) → result ≡ possible.wrong_kind kind (Some k) process.stored process.status }
 {
-    no_answer(process)
-        || process.opened.is_some()
-            && (!has_answer(kind, process.stored) || wrong_work(kind, process.status))
+    !has_answer(kind, process.stored) || wrong_work(kind, process.status)
 }
