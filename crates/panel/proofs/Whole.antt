@@ -1,10 +1,10 @@
 -- A key, whole: refused, or run by the machine as a schedule of one byte, from what is lent to what the key comes to.
-use Prim.Native.Nat.{ℕ, zero, suc, ◌-◌, ◌<◌}
+use Prim.Native.Nat.{ℕ, zero, suc, ◌-◌, ◌≤◌, ◌<◌}
 use mathlib.Core.Path.{◌≡◌, refl, sym, ap₂, subst}
 use mathlib.Core.List.{List, [], ◌∷◌}
-use Rattle.std.specs.Prelude.{Ok, Err}
 use native.Mathlib.Omega.{arith}
 use lib.ListN.{length, get_or, take, drop}
+use Rattle.std.specs.Prelude.{Ok, Err}
 use Rattle.runfile.specs.declared.Header.{Header}
 use Rattle.runfile.specs.Layout.{rows_start, stride_of}
 use Rattle.runfile.specs.Operations.{table_of}
@@ -21,69 +21,67 @@ use Rattle.run.specs.Run.{room_of}
 use Rattle.panel.specs.declared.Stroke.{Stroke}
 use Rattle.panel.specs.declared.Table.{Table}
 use Rattle.panel.specs.declared.Refused.{Refused}
-use Rattle.panel.specs.Press.{Outcome, done, Lent, lent, verdict_of, Fit, Leaves, state_of, stepped, carried, pressed}
+use Rattle.panel.specs.Press.{done, verdict_of, Fit, state_of, stepped, pressed}
+use Rattle.panel.specs.Promises.{PressedOn}
 use Rattle.panel.specs.Fits.{each_possible, sane_of}
+use Rattle.panel.proofs.Fits.{fit}
 
-module _ (h : Header) (f : List ℕ) (l : Lent) (k : Stroke) (ft : Fit h f l.processes (room_of l.words l.log l.answers) k) where
-  -- where a run stands before the key
-  abbrev from : Standing
-  from = record { processes = l.processes; position = k.position; log = k.log; answers = k.answers }
-
-  -- the key as a part of a schedule
-  abbrev part_of : (stride rows P : ℕ) → Part
-  part_of stride rows P = record { stride = stride; rows = rows; present = P; from = from }
-
-  lawful_key : (i : ℕ) → i < 1 → LawfulByte h.processes (get_or (k.byte ∷ []) i 0)
-  lawful_key zero b = lawful_byte h.processes k.byte ft.action
-  lawful_key (suc i) b = absurd (omega arith)
-
-  sane_key : (p : ℕ) → p < h.processes → Sane (table_of h f) p (get_or l.processes p nobody)
-  sane_key p i = sane_of (table_of h f) p (get_or l.processes p nobody) (each_possible (table_of h f) l.processes 0 h.processes p ft.possible (omega arith) (omega arith))
-
-  module _ (stride rows_at n P : ℕ) (z : stride ≡ stride_of h) (e : rows_at ≡ rows_start h) (q : n ≡ h.rows) (here : P ≡ h.processes) where
-    -- it may be run
-    pub able_in : Runnable (part_of stride n P) (take (length f - rows_at) (drop rows_at f)) (k.byte ∷ []) l.words l.log l.answers
-    able_in =
-        let lined = lined-part h f ft.lawful in
-        let early = ft.early in
-        let log_room = ft.log_room in
-        let answers_room = ft.answers_room in
-        rw (part_all f rows_at, z, e, q, here)
-        (record {
-          lined = lined;
-          on_words = λ j i. let a = words_part h f ft.lawful j i in let b = ft.words_room in omega arith;
-          present = ft.lawful.head.processes;
-          lawful = lawful_key;
-          early = omega arith;
-          log_room = omega arith;
-          answers_room = omega arith;
-          sane = λ p i. subst (λ rows. Sane rows p (get_or l.processes p nobody)) (sym (table-part h f)) (sane_key p i);
-        })
-
-    -- and what it leaves is what the key comes to
-    pub went : (r : Standing) (words log answers : List ℕ) → Runs (part_of stride n P) (take (length f - rows_at) (drop rows_at f)) (k.byte ∷ []) l.words l.log l.answers r words log answers
-        → Leaves (carried h f l k) (done r.log r.answers) r.processes words log answers
-    unfolding stepped state_of after_in state_lent
-    went r words log answers left =
-        let m = rw (part_all f rows_at, z, e, q, here, table-part h f) at left in
-        record {
-          result = ap₂ done m.holds.log_count m.holds.answers_count;
-          processes_are = m.processes_are;
-          words_are = m.holds.words_are;
-          log_is = m.holds.log_is;
-          answers_are = m.holds.answers_are;
-        }
-
--- the verdict decides
 module _ (f : List ℕ) (t : Table) (words log answers : List ℕ) (k : Stroke) where
-  abbrev l : Lent
-  l = lent t.processes words log answers
-
-  pub was_refused : (r : Refused) → verdict_of f t (room_of words log answers) k ≡ Err r → Leaves (pressed f t words log answers k) (Err r) t.processes words log answers
+  -- refused
+  pub refused : (r : Refused) → verdict_of f t (room_of words log answers) k ≡ Err r → PressedOn f t words log answers k (Err r) words log answers
   unfolding pressed
-  was_refused r v = rw v (record { result = refl; processes_are = refl; words_are = refl; log_is = refl; answers_are = refl })
+  refused r v = rw v (record { result = refl; processes_are = refl; words_are = refl; log_is = refl; answers_are = refl })
 
-  pub was_fine : (h : Header) → verdict_of f t (room_of words log answers) k ≡ Ok h → (r : Outcome) (ps : List Process) (words' log' answers' : List ℕ)
-      → Leaves (carried h f l k) r ps words' log' answers' → Leaves (pressed f t words log answers k) r ps words' log' answers'
-  unfolding pressed
-  was_fine h v r ps words' log' answers' c = rw v c
+  module _ (h : Header) (v : verdict_of f t (room_of words log answers) k ≡ Ok h) where
+    ft : Fit h f t.processes (room_of words log answers) k
+    ft = fit f t (room_of words log answers) k h v
+
+    -- the table begins in the file
+    pub begins : (at : ℕ) → at ≡ rows_start h → at ≤ length f
+    begins at r = let e = ft.lawful.head.exact in omega arith
+
+    -- the key as a part of a schedule, from where a run stands before it
+    abbrev part_of : (stride rows P : ℕ) → Part
+    part_of stride rows P = record { stride = stride; rows = rows; present = P; from = record { processes = t.processes; position = k.position; log = k.log; answers = k.answers } }
+
+    lawful_key : (i : ℕ) → i < 1 → LawfulByte h.processes (get_or (k.byte ∷ []) i 0)
+    lawful_key zero b = lawful_byte h.processes k.byte ft.action
+    lawful_key (suc i) b = absurd (omega arith)
+
+    sane_key : (p : ℕ) → p < h.processes → Sane (table_of h f) p (get_or t.processes p nobody)
+    sane_key p i = sane_of (table_of h f) p (get_or t.processes p nobody) (each_possible (table_of h f) t.processes 0 h.processes p ft.possible (omega arith) (omega arith))
+
+    module _ (stride rows_at n P : ℕ) (z : stride ≡ stride_of h) (e : rows_at ≡ rows_start h) (q : n ≡ h.rows) (here : P ≡ h.processes) where
+      -- it may be run
+      pub able : Runnable (part_of stride n P) (take (length f - rows_at) (drop rows_at f)) (k.byte ∷ []) words log answers
+      able =
+          let lined = lined-part h f ft.lawful in
+          let early = ft.early in
+          let log_room = ft.log_room in
+          let answers_room = ft.answers_room in
+          rw (part_all f rows_at, z, e, q, here)
+          (record {
+            lined = lined;
+            on_words = λ j i. let a = words_part h f ft.lawful j i in let b = ft.words_room in omega arith;
+            present = ft.lawful.head.processes;
+            lawful = lawful_key;
+            early = omega arith;
+            log_room = omega arith;
+            answers_room = omega arith;
+            sane = λ p i. subst (λ rows. Sane rows p (get_or t.processes p nobody)) (sym (table-part h f)) (sane_key p i);
+          })
+
+      -- and what it leaves is what the key comes to
+      pub went : (left : Standing) (words' log' answers' : List ℕ) → Runs (part_of stride n P) (take (length f - rows_at) (drop rows_at f)) (k.byte ∷ []) words log answers left words' log' answers'
+          → PressedOn f t words log answers k (Ok left) words' log' answers'
+      unfolding pressed stepped state_of after_in state_lent
+      went left words' log' answers' runs =
+          let m = rw (part_all f rows_at, z, e, q, here, table-part h f) at runs in
+          rw v
+          (record {
+            result = ap₂ done m.holds.log_count m.holds.answers_count;
+            processes_are = m.processes_are;
+            words_are = m.holds.words_are;
+            log_is = m.holds.log_is;
+            answers_are = m.holds.answers_are;
+          })
