@@ -43,10 +43,6 @@ done log answers = Ok (record { log = log; answers = answers })
 abbrev pub refuses : {A : Type 0} → Why → (place : ℕ) → Result A Refused
 refuses why place = Err (record { why = why; place = place })
 
--- where the file is not at fault, the place is 0 (R31)
-abbrev pub at_none : Why → Refused
-at_none why = record { why = why; place = 0 }
-
 -- as it is printed: its number, and its place (R195)
 abbrev pub refused_text : Refused → List ℕ
 refused_text r = codes "refused " ++ (decimal (number_of_why r.why) ++ (codes " " ++ decimal r.place))

@@ -54,28 +54,21 @@ fn any_impossible(
     (0..present).any(|p| is_impossible(table, stride, n, firsts[p], counts[p], processes[p]))
 }
 
-// Every refusal but the file's own is at place 0 (R31).
-fn refused(why: Why) -> Refused
-    ensures { result ≡ press.at_none why }
-{
-    Refused { why, place: 0 }
-}
-
 // 13 to 15: the words, the records, and room for one row more of each kind (R223 to R225).
 fn room_verdict(header: Header, held: usize, room: Room, key: Stroke) -> Result<Header, Refused>
     ensures { result ≡ press.roomy header held room key }
 {
     if room.words < usize::from(header.words) {
-        return Err(refused(Why::Run(Refusal::WordsRoom)));
+        return Err(Refused::whole(Why::Run(Refusal::WordsRoom)));
     }
     if held < usize::from(header.processes) {
-        return Err(refused(Why::Run(Refusal::WordsRoom)));
+        return Err(Refused::whole(Why::Run(Refusal::WordsRoom)));
     }
     if room.log / 5 <= key.log {
-        return Err(refused(Why::Run(Refusal::LogRoom)));
+        return Err(Refused::whole(Why::Run(Refusal::LogRoom)));
     }
     if room.answers / 5 <= key.answers {
-        return Err(refused(Why::Run(Refusal::AnswersRoom)));
+        return Err(Refused::whole(Why::Run(Refusal::AnswersRoom)));
     }
     Ok(header)
 }
@@ -112,16 +105,16 @@ fn sound_verdict(
     ensures { result ≡ press.sound header file.now processes key }
 {
     if 1023 < key.position {
-        return Err(refused(Why::Record));
+        return Err(Refused::whole(Why::Record));
     }
     if has_impossible(file, header, processes) {
-        return Err(refused(Why::Record));
+        return Err(Refused::whole(Why::Record));
     }
     if runfile::is_bad_byte(key.byte, header.processes) {
-        return Err(refused(Why::Key));
+        return Err(Refused::whole(Why::Key));
     }
     if is_idle_key(processes, key.byte) {
-        return Err(refused(Why::Run(Refusal::Idle)));
+        return Err(Refused::whole(Why::Run(Refusal::Idle)));
     }
     Ok(header)
 }

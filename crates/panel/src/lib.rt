@@ -13,12 +13,11 @@ ghost use Rattle.panel.specs.Press.{of_file, refused_text};
 ghost use Rattle.panel.specs.Promises.{Keyed, WhyNumbered};
 ghost use Rattle.std.specs.Prelude.{◌≡◌, Some};
 
-use std::error::Error;
-use std::fmt;
-
 use machine::Process;
 use press::press;
 use run::Counts;
+use std::error::Error;
+use std::fmt;
 
 // A key as it is struck: the byte, its position, and how many rows stand in the log and in the answers (R201).
 #[derive(Clone, Copy, Debug, PartialEq, Eq)]
@@ -59,6 +58,15 @@ impl From<Why> for u32 {
 pub struct Refused {
     pub why: Why,
     pub place: usize,
+}
+
+impl Refused {
+    // Where no byte of the file is at fault, the place is 0 (R31).
+    fn whole(why: Why) -> Refused
+        ensures { result ≡ record { why = why; place = 0 } }
+    {
+        Refused { why, place: 0 }
+    }
 }
 
 // A refusal of the file is the key's (R221).
