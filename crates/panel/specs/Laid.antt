@@ -1,6 +1,7 @@
 -- Records of one list laid over another: how the panel takes the lent records into a table, and gives them back.
-use Rattle.std.specs.Prelude.{ℕ, ◌≡◌, refl, List, [], ◌∷◌, ◌++◌, length, take, drop, replicate}
+use Rattle.std.specs.Prelude.{ℕ, ◌≡◌, List, ◌++◌, length, take, drop, replicate}
 use Rattle.std.proofs.Common.{◌∙◌, ap}
+use Rattle.std.proofs.lemmas.List.{append-nil}
 use Rattle.std.proofs.Math.Seq.{take-length, drop-length}
 use Rattle.machine.specs.declared.Process.{Process}
 use Rattle.machine.specs.Records.{nobody}
@@ -18,10 +19,6 @@ pub laid-whole : (a b : List Process) → laid (length a) a b ≡ a ++ drop (len
 unfolding laid
 laid-whole a b = ap (λ (l : List Process). l ++ drop (length a) b) (take-length a)
 
-append_none : (a : List Process) → a ++ [] ≡ a
-append_none [] = refl
-append_none (x ∷ a) = ap (λ (l : List Process). x ∷ l) (append_none a)
-
 pub laid_over : (a b : List Process) → laid (length b) a b ≡ take (length b) a
 unfolding laid
-laid_over a b = ap (λ (l : List Process). take (length b) a ++ l) (drop-length b) ∙ append_none (take (length b) a)
+laid_over a b = ap (λ (l : List Process). take (length b) a ++ l) (drop-length b) ∙ append-nil (take (length b) a)

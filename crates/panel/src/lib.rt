@@ -94,7 +94,8 @@ impl fmt::Display for Refused {
 
 impl Error for Refused {}
 
-// Sixteen records by value, of which the first `held` are the caller's.
+// Sixteen records, of which the first `held` are the caller's: an array and a count, since the core goes over records by
+// value (R306).
 #[derive(Clone, Copy, Debug, PartialEq, Eq)]
 pub struct Table {
     pub processes: [Process; 16],
@@ -116,8 +117,8 @@ pub fn key(
 {
     let table = Table::of(records);
     let left = press(file, table, words, log, answers, key)?;
-    let processes = left.processes;
-    Table { processes, ..table }.give(records);
+    let n = table.held;
+    records[..n].copy_from_slice(&left.processes[..n]);
     Ok(Counts {
         log: left.log,
         answers: left.answers,

@@ -1,5 +1,5 @@
-// Between the lent list of records and the table by value.
-ghost use Rattle.std.specs.Prelude.{◌≡◌, ◌≤◌, min, length};
+// From the lent list of records to the table by value.
+ghost use Rattle.std.specs.Prelude.{◌≡◌, min, length};
 ghost use Rattle.panel.specs.Laid.{blank, laid};
 
 use super::Table;
@@ -27,15 +27,5 @@ impl Table {
         let held = records.len().min(16);
         processes[..held].copy_from_slice(&records[..held]);
         Table { processes, held }
-    }
-
-    // The caller's records, over the lent ones.
-    #[tactic(auto, unfolding(crate::specs::Laid::laid))]
-    pub(crate) fn give(self, records: &mut [Process])
-        requires { (self.held ≤ 16) × (self.held ≤ length records.old) }
-        ensures { records.new ≡ laid self.held self.processes records.old }
-    {
-        let n = self.held;
-        records[..n].copy_from_slice(&self.processes[..n]);
     }
 }
