@@ -1,31 +1,25 @@
 // Whether a key is carried out: refusals 13 to 15, 21, 22 and 16, for a file that is accepted; and before them the file's own (R220).
-ghost use Rattle.std.specs.Prelude.{◌≡◌, ◌||◌, ◌+◌, ◌*◌, ◌≤◌, length};
-ghost use Rattle.runfile.specs.Format.{RowSize};
-ghost use Rattle.runfile.specs.Operations.{rows_from, row_numbered, table_of};
+ghost use Rattle.std.specs.Prelude.{◌≡◌, ◌||◌, ◌+◌, ◌≤◌};
+ghost use Rattle.runfile.specs.Operations.{row_numbered, table_of};
 ghost use Rattle.runfile.specs.Kinds.{kind_of};
 ghost use Rattle.runfile.specs.Lawful.{LawfulFile};
 ghost use Rattle.runfile.specs.Shares.{Lined};
-ghost use Rattle.machine.specs.Records.{row_open, is_awake};
+ghost use Rattle.machine.specs.Records.{row_open};
+ghost use Rattle.engine.specs.Part.{rows_lent};
 ghost use Rattle.panel.specs.Possible as possible;
 ghost use Rattle.panel.specs.Press as press;
 
 use super::possible::{misplaced, no_answer, wrong_kind};
 use super::{Refused, Stroke, Table, Why};
 use machine::{Process, Status};
-use runfile::{Header, Refusal, Room};
+use runfile::{Header, Operations, Refusal, Room};
 
 // Whether a record cannot be, whose process has `count` rows from row `first` on (R231b to R231i).
 #[tactic(auto, unfolding(crate::specs::Possible::misdone))]
-fn is_impossible(
-    table: &[u8],
-    stride: usize,
-    n: usize,
-    first: u16,
-    count: u16,
-    process: Process,
-) -> bool
-    requires { RowSize stride × (n * stride ≤ length table.now) × (first + count ≤ n) }
-    ensures { result ≡ (possible.misplaced first count process || possible.misdone (kind_of (row_numbered (rows_from stride table.now 0 n) (row_open process.opened))) process) }
+fn is_impossible(operations: Operations, first: u16, count: u16, process: Process) -> bool
+    requires lined { Lined operations.stride operations.table.now operations.count }
+    requires fits { first + count ≤ operations.count }
+    ensures { result ≡ (possible.misplaced first count process || possible.misdone (kind_of (row_numbered (rows_lent operations.entry) (row_open process.opened))) process) }
 {
     if misplaced(first, count, process) || no_answer(process) {
         return true;
@@ -34,24 +28,19 @@ fn is_impossible(
     let Some(k) = process.opened else {
         return false;
     };
-    let row = runfile::row_at(table, stride, usize::from(k));
+    let row = operations.row(usize::from(k));
     wrong_kind(runfile::kind_of(row), process)
 }
 
 // Whether one of the first `present` records cannot be.
-fn any_impossible(
-    table: &[u8],
-    stride: usize,
-    n: usize,
-    processes: [Process; 16],
-    present: usize,
-) -> bool
-    requires { (present ≤ 16) × Lined stride table.now n }
-    ensures { result ≡ possible.any_impossible (rows_from stride table.now 0 n) processes 0 present }
+fn any_impossible(operations: Operations, processes: [Process; 16], present: usize) -> bool
+    requires lined { Lined operations.stride operations.table.now operations.count }
+    requires sixteen { present ≤ 16 }
+    ensures { result ≡ possible.any_impossible (rows_lent operations.entry) processes 0 present }
 {
-    let counts = runfile::counts_of(table, stride, n);
+    let counts = operations.counts();
     let firsts = runfile::firsts_of(counts);
-    (0..present).any(|p| is_impossible(table, stride, n, firsts[p], counts[p], processes[p]))
+    (0..present).any(|p| is_impossible(operations, firsts[p], counts[p], processes[p]))
 }
 
 // 13 to 15: the words, the records, and room for one row more of each kind (R223 to R225).
@@ -87,11 +76,8 @@ fn has_impossible(file: &[u8], header: Header, processes: [Process; 16]) -> bool
     requires { LawfulFile header file.now }
     ensures { result ≡ possible.any_impossible (table_of header file.now) processes 0 header.processes }
 {
-    let rows_at = runfile::rows_start(header);
-    let stride = runfile::stride_of(header);
-    let rows = usize::from(header.rows);
-    let present = usize::from(header.processes);
-    any_impossible(&file[rows_at..], stride, rows, processes, present)
+    let operations = Operations::of(file, header);
+    any_impossible(operations, processes, usize::from(header.processes))
 }
 
 // 21, 22 and 16: the position, the records and the byte (R231, R232, R226).

@@ -46,7 +46,7 @@ impl From<Why> for u32 {
 
     fn from(why: Why) -> u32 {
         match why {
-            Why::Run(refusal) => runfile::refusal_number(refusal),
+            Why::Run(refusal) => u32::from(refusal),
             Why::Record => 21,
             Why::Key => 22,
         }

@@ -4,7 +4,7 @@ ghost use Rattle.panel.specs.Promises.{PressedOn};
 use super::judge::verdict_of;
 use super::{Refused, Stroke, Table};
 use engine::{Part, Standing};
-use runfile::Room;
+use runfile::{Operations, Room};
 
 pub fn press(
     file: &[u8],
@@ -22,11 +22,8 @@ pub fn press(
         answers: answers.len(),
     };
     let header = verdict_of(file, table, room, key)?;
-    let rows_at = runfile::rows_start(header);
     let processes = table.processes;
     let part = Part {
-        stride: runfile::stride_of(header),
-        rows: usize::from(header.rows),
         present: usize::from(header.processes),
         from: Standing {
             processes,
@@ -35,5 +32,6 @@ pub fn press(
             answers: key.answers,
         },
     };
-    Ok(engine::run_bytes(&file[rows_at..], &[key.byte], words, log, answers, part))
+    let operations = Operations::of(file, header);
+    Ok(engine::run_bytes(operations, &[key.byte], words, log, answers, part))
 }

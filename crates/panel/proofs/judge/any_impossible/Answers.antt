@@ -6,6 +6,7 @@ use Rattle.runfile.specs.declared.Row.{Row}
 use Rattle.runfile.specs.Kinds.{kind_of}
 use Rattle.runfile.specs.Operations.{rows_from, row_numbered}
 use Rattle.runfile.specs.OperationLaws.{length-rows_from}
+use Rattle.engine.specs.Part.{rows_lent}
 use Rattle.runfile.specs.Shares.{Counted, Summed, last_fits, first-at, sum_fits}
 use Rattle.machine.specs.declared.Process.{Process}
 use Rattle.machine.specs.Records.{nobody, row_open}
@@ -28,19 +29,17 @@ in_table stride table n firsts counts p c s low =
     omega (arith, first-at rows counts firsts c s p low, c.each p low, last_fits rows p, length-rows_from stride table 0 n)
 
 pub firsts_of-firsts-requires : goal.firsts_of-firsts-requires
-firsts_of-firsts-requires c = sum_fits c.args.stride c.args.table.now c.args.n _ c.requires.1.few c.counts_of-counts.ensures
+firsts_of-firsts-requires c = let o = c.args.operations in sum_fits o.stride o.table.now o.count _ c.requires.lined.few c.counts-counts.ensures
 
 pub any-requires-clause-callable : goal.any-requires-clause-callable
 any-requires-clause-callable c = serves_from_Range (λ x q k. search rules) (λ x from to.
-    let low : x < 16 = omega (arith, c.requires.0) in
-    let fits = in_table _ _ _ _ _ x c.counts_of-counts.ensures c.firsts_of-firsts.ensures low in
-    let size = c.requires.1.size in
-    let whole = c.requires.1.whole in
+    let low : x < 16 = omega (arith, c.requires.sixteen) in
+    let fits = in_table _ _ _ _ _ x c.counts-counts.ensures c.firsts_of-firsts.ensures low in
+    let lined = c.requires.lined in
     search rules)
 
 pub returns : goal.returns
 returns c =
-    let rows = rows_from c.args.stride c.args.table.now 0 c.args.n in
-    let tested_by = test rows c.firsts_of-firsts.result c.counts_of-counts.result c.args.processes in
+    let tested_by = test (rows_lent c.args.operations) c.firsts_of-firsts.result c.counts-counts.result c.args.processes in
     any_from_yields_List tested_by _ _ _ c.any.ensures.ran (YieldsList-from_range 0 c.args.present c.args.present refl (omega arith)) (λ x b q k. search (rules, tests))
-    ∙ any_tested rows c.args.processes tested_by 0 c.args.present (λ p i. tested _ _ _ _ p c.counts_of-counts.ensures c.firsts_of-firsts.ensures (omega (arith, c.requires.0)))
+    ∙ any_tested _ c.args.processes tested_by 0 c.args.present (λ p i. tested _ _ _ _ p c.counts-counts.ensures c.firsts_of-firsts.ensures (omega (arith, c.requires.sixteen)))
