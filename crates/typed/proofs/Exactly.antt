@@ -13,13 +13,14 @@ use Rattle.typed.specs.declared.chars.Class.{Class}
 use Rattle.typed.specs.declared.chars.Class.TheVariants.{Digit, Blank, NewLine, Hash, Other}
 use Rattle.typed.specs.declared.scan.State.{State}
 use Rattle.typed.specs.declared.scan.State.TheVariants.{Between, Comment, Half}
-use Rattle.typed.specs.declared.scan.Checked.{Checked}
-use Rattle.typed.specs.declared.scan.Checked.TheVariants.{Good, Bad}
 use Rattle.typed.specs.Chars.{digit_class, within, is_digit, class_of}
 use Rattle.typed.specs.Reading.{Reading, meets, act, go_on, reading, checked, checked_of}
 use Rattle.typed.specs.Offences.{class_at, digit_at, in_comment, begins, begun, separates, Parts, ends, apart, Offends, stray, alone, too_many, First}
 use Rattle.typed.specs.Spots.{peel}
 use Rattle.typed.specs.Exactly.{true_false, parting_digit, no_digit, begins-in_comment, begins-after, Agrees, Next, plain, agrees_next, Quiet, Verdict, since}
+use Rattle.std.specs.Prelude.{Err, Ok, Result}
+use Rattle.typed.specs.declared.scan.Offence.{Offence}
+use Rattle.typed.specs.Reading.{offence}
 
 parting_other : (k : Class) → separates k ≡ true → k ≡ Other → ⊥
 parting_other k s e = true_false (separates Other) (rw e at s) refl
@@ -73,34 +74,34 @@ module _ (text : List ℕ) where
     past i h k (alone f e) = true_false (digit_at text i) (begins_digit i f) (past_digit i h)
     past i h k (too_many f d r) = true_false (digit_at text i) (begins_digit i f) (past_digit i h)
 
-    extend : (i next : ℕ) → next ≡ suc i → Quiet text room i → (c : Checked) → Verdict text room next c → Verdict text room i c
-    extend i next e q (Good m) v = (v.0, λ k j l o. go k j l o (eqb i j) refl)
+    extend : (i next : ℕ) → next ≡ suc i → Quiet text room i → (c : Result ℕ Offence) → Verdict text room next c → Verdict text room i c
+    extend i next e q (Ok m) v = (v.0, λ k j l o. go k j l o (eqb i j) refl)
       where
         go : (k : Slip) (j : ℕ) → i ≤ j → Offends text room k j → (b : Bool) → eqb i j ≡ b → ⊥
         go k j l o true p = let z : j ≡ i = sym (eqb-true i j p) in q k (rw z at o)
         go k j l o false p = v.1 k j (let z = eqb-false i j p in omega arith) o
-    extend i next e q (Bad slip at) v = (v.0, let l = v.1 in omega arith, λ k j l h o. go k j l h o (eqb i j) refl)
+    extend i next e q (Err x) v = (v.0, let l = v.1 in omega arith, λ k j l h o. go k j l h o (eqb i j) refl)
       where
-        go : (k : Slip) (j : ℕ) → i ≤ j → j < at → Offends text room k j → (b : Bool) → eqb i j ≡ b → ⊥
+        go : (k : Slip) (j : ℕ) → i ≤ j → j < x.at → Offends text room k j → (b : Bool) → eqb i j ≡ b → ⊥
         go k j l h o true p = let z : j ≡ i = sym (eqb-true i j p) in q k (rw z at o)
         go k j l h o false p = v.2 k j (let z = eqb-false i j p in omega arith) h o
 
-    here : (slip : Slip) (i : ℕ) → Offends text room slip i → Verdict text room i (Bad slip i)
+    here : (slip : Slip) (i : ℕ) → Offends text room slip i → Verdict text room i (Err (offence slip i))
     here slip i o = (o, omega arith, λ k j l h x. omega arith)
 
     -- an index that begins no byte and is not stray
-    step_over : (at : ℕ) (c : Checked) → begins text at ≡ false → (in_comment text at ≡ false → class_at text at ≡ Other → ⊥) → Verdict text room (suc at) c → Verdict text room at c
+    step_over : (at : ℕ) (c : Result ℕ Offence) → begins text at ≡ false → (in_comment text at ≡ false → class_at text at ≡ Other → ⊥) → Verdict text room (suc at) c → Verdict text room at c
     step_over at c b s v = extend at (suc at) refl (calm at b s) c v
 
     -- the second digit of a byte, for which there is room or not
     second : (high first at n : ℕ) (r : Reading) → Agrees text (Half high first) at n → class_at text at ≡ Digit → Verdict text room (suc at) (checked room (suc n) r)
-        → (b : Bool) → ltb n room ≡ b → Verdict text room first (cond b (checked room (suc n) r) (Bad TooMany first))
+        → (b : Bool) → ltb n room ≡ b → Verdict text room first (cond b (checked room (suc n) r) (Err (offence TooMany first)))
     second high first at n r a q v b t = go b t
       where
         next_digit : digit_at text (suc first) ≡ true
         next_digit = rw (← a.0) (digit_class _ q)
 
-        go : (b : Bool) → ltb n room ≡ b → Verdict text room first (cond b (checked room (suc n) r) (Bad TooMany first))
+        go : (b : Bool) → ltb n room ≡ b → Verdict text room first (cond b (checked room (suc n) r) (Err (offence TooMany first)))
         go true t =
             let w = step_over at (checked room (suc n) r) (rw a.0 (begins-after text first a.1)) (λ f o. other_digit (sym o ∙ q)) v in
             extend first at a.0 (whole first a.1 next_digit (rw a.3 (ltb-true n room t))) (checked room (suc n) r) w
@@ -120,19 +121,19 @@ module _ (text : List ℕ) where
         let q = ap class_of p.1 in
         go s a p.0 (class_of c) q (agrees_next text at n c s (class_of c) a q) (λ t m. verdict cs t (suc at) m p.2 (let h = p.0 in omega arith))
       where
-        blank_over : (k : Class) (x : Checked) → separates k ≡ true → class_at text at ≡ k → Verdict text room (suc at) x → Verdict text room at x
+        blank_over : (k : Class) (x : Result ℕ Offence) → separates k ≡ true → class_at text at ≡ k → Verdict text room (suc at) x → Verdict text room at x
         blank_over k x s q v = step_over at x (plain text at k s q) (λ f y. parting_other k s (sym q ∙ y)) v
 
-        note_over : (x : Checked) → in_comment text at ≡ true → Verdict text room (suc at) x → Verdict text room at x
+        note_over : (x : Result ℕ Offence) → in_comment text at ≡ true → Verdict text room (suc at) x → Verdict text room at x
         note_over x i v = step_over at x (begins-in_comment text at i) (λ f y. true_false (in_comment text at) i f) v
 
-        cut_off : (high first : ℕ) (k : Class) → Agrees text (Half high first) at n → separates k ≡ true → class_at text at ≡ k → Verdict text room first (Bad Alone first)
+        cut_off : (high first : ℕ) (k : Class) → Agrees text (Half high first) at n → separates k ≡ true → class_at text at ≡ k → Verdict text room first (Err (offence Alone first))
         cut_off high first k a s q = here Alone first (alone a.1 (apart (rw (← a.0, q) s)))
 
-        break_off : (high first : ℕ) → Agrees text (Half high first) at n → at < length text → class_at text at ≡ Other → Verdict text room first (Bad Stray at)
-        break_off high first a l q = extend first at a.0 (broken first a.1 (rw (← a.0) l) (rw (← a.0) q)) (Bad Stray at) (here Stray at (stray l a.2 q))
+        break_off : (high first : ℕ) → Agrees text (Half high first) at n → at < length text → class_at text at ≡ Other → Verdict text room first (Err (offence Stray at))
+        break_off high first a l q = extend first at a.0 (broken first a.1 (rw (← a.0) l) (rw (← a.0) q)) (Err (offence Stray at)) (here Stray at (stray l a.2 q))
 
-        after : State → Checked
+        after : State → Result ℕ Offence
         after t = checked room n (reading t (suc at) cs)
 
         go : (s : State) → Agrees text s at n → at < length text → (k : Class) → class_at text at ≡ k → Next text at n (meets s at c k)
@@ -158,7 +159,7 @@ module _ (text : List ℕ) where
     whole_verdict = verdict text Between 0 0 refl (omega arith) (refl, refl, refl)
 
     -- a slip is told exactly when it is the first offence
-    told-first : (slip : Slip) (i : ℕ) → checked_of text room ≡ Bad slip i → First text room slip i
+    told-first : (slip : Slip) (i : ℕ) → checked_of text room ≡ Err (offence slip i) → First text room slip i
     told-first slip i e = let v = rw e at whole_verdict in record { offends = v.0; none_before = λ k j h o. v.2 k j (omega arith) h o }
 
     -- at one index at most one of the three holds
@@ -173,10 +174,10 @@ module _ (text : List ℕ) where
     one_slip i k m (too_many f d r) (alone f' e) = true_false (digit_at text (suc i)) d (parts_no_digit (suc i) e)
     one_slip i k m (too_many f d r) (too_many f' d' r') = refl
 
-    one_first : (k m : Slip) (i j : ℕ) → First text room k i → First text room m j → Bad k i ≡ Bad m j
+    one_first : (k m : Slip) (i j : ℕ) → First text room k i → First text room m j → ◌≡◌ {A = Result ℕ Offence} (Err (offence k i)) (Err (offence m j))
     one_first k m i j a b = go (ltb i j) refl (ltb j i) refl
       where
-        go : (x : Bool) → ltb i j ≡ x → (y : Bool) → ltb j i ≡ y → Bad k i ≡ Bad m j
+        go : (x : Bool) → ltb i j ≡ x → (y : Bool) → ltb j i ≡ y → ◌≡◌ {A = Result ℕ Offence} (Err (offence k i)) (Err (offence m j))
         go true p y q = absurd (b.none_before k i (ltb-true i j p) a.offends)
         go false p true q = absurd (a.none_before m j (ltb-true j i q) b.offends)
         go false p false q =
@@ -184,17 +185,17 @@ module _ (text : List ℕ) where
             let slips-same : k ≡ m = one_slip j k m (rw same at a.offends) b.offends in
             rw (same, slips-same)
 
-    pub slips_exactly : (slip : Slip) (i : ℕ) → (checked_of text room ≡ Bad slip i) ↔ First text room slip i
+    pub slips_exactly : (slip : Slip) (i : ℕ) → (checked_of text room ≡ Err (offence slip i)) ↔ First text room slip i
     slips_exactly slip i = (told-first slip i, λ f. go (checked_of text room) refl f)
       where
-        go : (c : Checked) → checked_of text room ≡ c → First text room slip i → c ≡ Bad slip i
-        go (Good m) e f = let v = rw e at whole_verdict in absurd (v.1 slip i (omega arith) f.offends)
-        go (Bad k j) e f = one_first k slip j i (told-first k j e) f
+        go : (c : Result ℕ Offence) → checked_of text room ≡ c → First text room slip i → c ≡ Err (offence slip i)
+        go (Ok m) e f = let v = rw e at whole_verdict in absurd (v.1 slip i (omega arith) f.offends)
+        go (Err o) e f = one_first o.slip slip o.at i (told-first o.slip o.at e) f
 
     -- and a text is accepted exactly when nothing offends, with as many bytes as begin in it
-    pub accepts_exactly : (n : ℕ) → (checked_of text room ≡ Good n) ↔ (((k : Slip) (i : ℕ) → Offends text room k i → ⊥) × (begun text (length text) ≡ n))
+    pub accepts_exactly : (n : ℕ) → (checked_of text room ≡ Ok n) ↔ (((k : Slip) (i : ℕ) → Offends text room k i → ⊥) × (begun text (length text) ≡ n))
     accepts_exactly n = (λ e. let v = rw e at whole_verdict in (λ k i o. v.1 k i (omega arith) o, v.0), λ f. go (checked_of text room) refl f)
       where
-        go : (c : Checked) → checked_of text room ≡ c → ((k : Slip) (i : ℕ) → Offends text room k i → ⊥) × (begun text (length text) ≡ n) → c ≡ Good n
-        go (Good m) e f = let v = rw e at whole_verdict in ap Good (sym v.0 ∙ f.1)
-        go (Bad k i) e f = absurd (f.0 k i (told-first k i e).offends)
+        go : (c : Result ℕ Offence) → checked_of text room ≡ c → ((k : Slip) (i : ℕ) → Offends text room k i → ⊥) × (begun text (length text) ≡ n) → c ≡ Ok n
+        go (Ok m) e f = let v = rw e at whole_verdict in ap Ok (sym v.0 ∙ f.1)
+        go (Err o) e f = absurd (f.0 o.slip o.at (told-first o.slip o.at e).offends)

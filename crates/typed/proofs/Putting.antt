@@ -1,5 +1,5 @@
 -- One turn of each loop that puts text, in the loop's own terms: what is still to be put, from here on, gives the whole.
-use Prim.Native.Nat.{ℕ, suc, ◌+◌, ◌-◌, ◌/◌, ◌%◌, ◌≤◌, ◌<◌}
+use Prim.Native.Nat.{ℕ, suc, ◌+◌, ◌*◌, ◌/◌, ◌%◌, ◌≤◌, ◌<◌}
 use native.Mathlib.Nat.{add-zero}
 use mathlib.Core.Path.{◌≡◌}
 use mathlib.Core.List.{List, [], ◌∷◌, ◌++◌}
@@ -8,45 +8,41 @@ use native.Mathlib.Omega.{arith}
 use lib.ListN.{length, get_or, drop, set, drop_of_length-le}
 use lib.Seq.{drop-cons, sets}
 use Rattle.typed.specs.Chars.{digit_of}
-use Rattle.typed.specs.Writing.{after_byte, paired, spaces, on_one_line, lined, remark}
+use Rattle.typed.specs.Writing.{after_byte, paired, on_one_line, lined, remark}
 
 -- a byte more, and no byte left
-pub one_more : (bytes out all : List ℕ) (n last at i : ℕ) (d e s : ℕ) → i < length bytes
+pub one_more : (bytes out all : List ℕ) (n last start i : ℕ) (d e s : ℕ) → i < length bytes
     → d ≡ digit_of (get_or bytes i 0 / 16) → e ≡ digit_of (get_or bytes i 0 % 16) → s ≡ after_byte n last (i + 1)
-    → sets out at (paired n last i (drop i bytes)) ≡ all
-    → sets (set (set (set out at d) (at + 1) e) (at + 2) s) (at + 3) (paired n last (i + 1) (drop (i + 1) bytes)) ≡ all
+    → sets out (start + 3 * i) (paired n last i (drop i bytes)) ≡ all
+    → sets (set (set (set out (start + 3 * i) d) (start + 3 * i + 1) e) (start + 3 * i + 2) s) (start + 3 * (i + 1)) (paired n last (i + 1) (drop (i + 1) bytes)) ≡ all
 unfolding paired
-one_more bytes out all n last at i d e s h p q r x =
-    let two : at + 2 ≡ suc (suc at) = omega arith in
-    let three : at + 3 ≡ suc (suc (suc at)) = omega arith in
-    rw (p, q, r, two, three, add-one at, add-one i) (rw (drop-cons bytes i 0 h) at x)
+one_more bytes out all n last start i d e s h p q r x =
+    let two : start + 3 * i + 2 ≡ suc (suc (start + 3 * i)) = omega arith in
+    let three : start + 3 * (i + 1) ≡ suc (suc (suc (start + 3 * i))) = omega arith in
+    rw (p, q, r, two, three, add-one (start + 3 * i), add-one i) (rw (drop-cons bytes i 0 h) at x)
 
 pub done : (bytes out all : List ℕ) (n last at i : ℕ) → length bytes ≤ i → sets out at (paired n last i (drop i bytes)) ≡ all → out ≡ all
 unfolding paired
 done bytes out all n last at i h x = rw (drop_of_length-le bytes h) at x
-
--- a space more
-pub space_more : (out all : List ℕ) (at left : ℕ) → 0 < left → sets out at (spaces left) ≡ all → sets (set out at 32) (at + 1) (spaces (left - 1)) ≡ all
-unfolding spaces
-space_more out all at left h x = let more : left ≡ suc (left - 1) = omega arith in rw (add-one at) (rw more at x)
-
-pub spaced : (out all : List ℕ) (at left : ℕ) → left ≤ 0 → sets out at (spaces left) ≡ all → out ≡ all
-unfolding spaces
-spaced out all at left h x = let none : left ≡ 0 = omega arith in rw none at x
 
 -- a comment's beginning, a character of it more, and the end of its line
 pub opened : (comment out : List ℕ) (start : ℕ) → sets (set (set out start 35) (start + 1) 32) (start + 2) (lined comment) ≡ sets out start (remark comment)
 unfolding remark
 opened comment out start = let two : start + 2 ≡ suc (suc start) = omega arith in rw (two, add-one start)
 
-pub lined_more : (comment out all : List ℕ) (at i c : ℕ) → i < length comment → c ≡ on_one_line (get_or comment i 0)
-    → sets out at (lined (drop i comment)) ≡ all → sets (set out at c) (at + 1) (lined (drop (i + 1) comment)) ≡ all
+pub lined_more : (comment out all : List ℕ) (start i c : ℕ) → i < length comment → c ≡ on_one_line (get_or comment i 0)
+    → sets out (start + i) (lined (drop i comment)) ≡ all → sets (set out (start + i) c) (start + (i + 1)) (lined (drop (i + 1) comment)) ≡ all
 unfolding lined
-lined_more comment out all at i c h e x = rw (e, add-one at, add-one i) (rw (drop-cons comment i 0 h) at x)
+lined_more comment out all start i c h e x =
+    let next : start + (i + 1) ≡ suc (start + i) = omega arith in
+    rw (e, next, add-one i) (rw (drop-cons comment i 0 h) at x)
 
-pub ended : (comment out all : List ℕ) (at i : ℕ) → length comment ≤ i → sets out at (lined (drop i comment)) ≡ all → set out at 10 ≡ all
+pub ended : (comment out all : List ℕ) (start i : ℕ) → i ≤ length comment → length comment ≤ i → sets out (start + i) (lined (drop i comment)) ≡ all
+    → set out (start + length comment) 10 ≡ all
 unfolding lined
-ended comment out all at i h x = rw (drop_of_length-le comment h) at x
+ended comment out all start i l h x =
+    let same : i ≡ length comment = omega arith in
+    rw (← same) (rw (drop_of_length-le comment h) at x)
 
 -- what is stored behind what was stored
 pub sets_append : (out : List ℕ) (at : ℕ) (xs ys : List ℕ) → sets (sets out at xs) (at + length xs) ys ≡ sets out at (xs ++ ys)

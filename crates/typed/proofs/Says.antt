@@ -6,10 +6,6 @@ use Rattle.std.proofs.Math.ListN.{get_or-eq_default}
 use Rattle.typed.specs.declared.chars.Class.{Class}
 use Rattle.typed.specs.declared.chars.Class.TheVariants.{Digit, Blank, NewLine, Hash, Other}
 use Rattle.typed.specs.declared.scan.State.TheVariants.{Between, Comment}
-use Rattle.typed.specs.declared.Typed.{Typed}
-use Rattle.typed.specs.declared.Typed.TheVariants.{Bytes}
-use Rattle.typed.specs.declared.Written.{Written}
-use Rattle.typed.specs.declared.Written.TheVariants.{Upto}
 use Rattle.typed.specs.Chars.{in_range, above, class_digit, newline_class, within, is_digit, is_blank, class_of, value_of, byte_of, digit_of}
 use Rattle.typed.specs.Reading.{act, meets, go_on, reading}
 use Rattle.typed.specs.Writing.{after_byte, paired, gap, spaces, on_one_line, lined, remark, comment_of, text_of}
@@ -17,6 +13,8 @@ use Rattle.typed.specs.Exactly.{true_false}
 use Rattle.typed.specs.Runs.{two-read}
 use Rattle.typed.specs.Promises.{infront, fits, written_to, leaves, Reads, Puts}
 use Rattle.typed.specs.Says.{none, more, Ahead, Says, nothing, joined, says_ahead, says_none, says-append, says_back, Small, Passed}
+use Rattle.std.specs.Prelude.{Ok, Option, Result, Some}
+use Rattle.typed.specs.declared.Slipped.{Slipped}
 
 -- the digit of a value is a digit, and worth that value
 digit_back : (v : ℕ) → v < 16 → (is_digit (digit_of v) ≡ true) × (value_of (digit_of v) ≡ v)
@@ -116,11 +114,11 @@ pub says_text : (bytes comment : List ℕ) → Small bytes → Says (text_of byt
 says_text bytes comment s = says_ahead (text_ahead bytes comment s)
 
 -- one piece more: what stood up to `at` said some bytes, and what stands up to the new end says those and the piece's
-pub puts_says : {out : List ℕ} {at : ℕ} {bytes comment : List ℕ} {r : Written} {out' : List ℕ} {m : ℕ} {before : List ℕ}
-    → Puts out at bytes comment r out' → r ≡ Upto m → Small bytes → Says (take at out) before → Says (take m out') (before ++ bytes)
+pub puts_says : {out : List ℕ} {at : ℕ} {bytes comment : List ℕ} {r : Option ℕ} {out' : List ℕ} {m : ℕ} {before : List ℕ}
+    → Puts out at bytes comment r out' → r ≡ Some m → Small bytes → Says (take at out) before → Says (take m out') (before ++ bytes)
 puts_says {out} {at} {bytes} {comment} {r} {out'} {m} {before} p q s x = go (fits out at (text_of bytes comment)) refl (sym q ∙ p.result) p.buffer
   where
-    go : (b : Bool) → fits out at (text_of bytes comment) ≡ b → Upto m ≡ written_to b (at + length (text_of bytes comment)) → out' ≡ leaves b at (text_of bytes comment) out
+    go : (b : Bool) → fits out at (text_of bytes comment) ≡ b → Some m ≡ written_to b (at + length (text_of bytes comment)) → out' ≡ leaves b at (text_of bytes comment) out
         → Says (take m out') (before ++ bytes)
     go false t q e = absurd (let z : ◌≡◌ {A = ℕ} 0 1 = cc in omega arith)
     go true t q e =
@@ -142,14 +140,14 @@ small_piece file i n s j = go (ltb j n) refl
         rw (get_or-eq_default (take n (drop i file)) 0 short) (omega arith)
 
 -- the same of a file that is put piece by piece, this one from i to e
-pub puts_piece : {out : List ℕ} {at : ℕ} {comment : List ℕ} {r : Written} {out' : List ℕ} {m : ℕ} (file : List ℕ) (i e : ℕ)
-    → Puts out at (take (e - i) (drop i file)) comment r out' → r ≡ Upto m → i ≤ e → Small file → Says (take at out) (take i file) → Says (take m out') (take e file)
+pub puts_piece : {out : List ℕ} {at : ℕ} {comment : List ℕ} {r : Option ℕ} {out' : List ℕ} {m : ℕ} (file : List ℕ) (i e : ℕ)
+    → Puts out at (take (e - i) (drop i file)) comment r out' → r ≡ Some m → i ≤ e → Small file → Says (take at out) (take i file) → Says (take m out') (take e file)
 puts_piece {out' = out'} {m = m} file i e p q h s x =
     let reach : i + (e - i) ≡ e = omega arith in
     let join : take i file ++ take (e - i) (drop i file) ≡ take e file = sym (take-add i (e - i) file) ∙ ap (λ k. take k file) reach in
     subst (Says (take m out')) join (puts_says p q (small_piece file i (e - i) s) x)
 
 -- said of the two functions: what one `put_bytes` left from the front on, `read` takes back
-pub round_trip : (bytes comment out out' into into' : List ℕ) (m : ℕ) (r : Typed) → Small bytes
-    → Puts out 0 bytes comment (Upto m) out' → length bytes ≤ length into → Reads (take m out') into r into' → (r ≡ Bytes (length bytes)) × (into' ≡ infront bytes into)
+pub round_trip : (bytes comment out out' into into' : List ℕ) (m : ℕ) (r : Result ℕ Slipped) → Small bytes
+    → Puts out 0 bytes comment (Some m) out' → length bytes ≤ length into → Reads (take m out') into r into' → (r ≡ Ok (length bytes)) × (into' ≡ infront bytes into)
 round_trip bytes comment out out' into into' m r s p h d = says_back (take m out') bytes into r into' (puts_says p refl s says_none) h d

@@ -1,34 +1,42 @@
--- One turn of a loop that goes over a text, in the loop's own terms. Each of the three loops makes something of what is read: the check's answer, a byte's
--- spot, the filled buffer. Its invariant is that what it makes of the rest is what it is to make of the whole, and the laws carry that over a character.
-use Prim.Native.Nat.{ℕ, zero, suc, ◌+◌, ◌-◌, ◌≤◌, ◌<◌}
+-- The walk over a text, in the terms of its code: what it has still to give is carried over a character, and each of the three that take its items makes of
+-- the rest what it is to make of the whole.
+use Prim.Native.Nat.{ℕ, zero, suc, ◌+◌, ◌≤◌, ◌<◌}
 use mathlib.Core.Path.{◌≡◌, refl, sym, ap, ◌∙◌}
 use mathlib.Core.List.{List, [], ◌∷◌}
 use native.Mathlib.Omega.{arith}
-use borrow.Author.Tests.{lt-ltb, le-ltb}
 use native.Mathlib.Numerals.{add-one}
-use lib.ListN.{length, get_or, drop, set, drop_of_length-le}
+use lib.ListN.{length, get_or, drop, drop_of_length-le}
 use lib.Seq.{drop-cons, sets, set_out}
+use Rattle.std.specs.Prelude.{Err, None, Ok, Option, Result, Some, cond, ltb, slice_get}
+use Rattle.std.specs.Option.{option_map}
+use Rattle.std.specs.Result.{result_ok}
+use Rattle.std.proofs.lemmas.Iterator.Adapters.{option_map_id}
+use Rattle.std.proofs.iter.Yields.{nat_range_steps}
+use Rattle.std.specs.declared.ops.Range.{Range}
+use Rattle.std.specs.Iterator.{YieldsFirst}
+use mathlib.Core.Logic.{◌⊎◌, inl, inr}
+use Rattle.typed.specs.declared.scan.Scan.{Scan}
 use Rattle.typed.specs.declared.Slip.{Slip}
-use Rattle.typed.specs.declared.Slip.TheVariants.{TooMany}
+use Rattle.typed.specs.declared.Slip.TheVariants.{Alone, TooMany}
 use Rattle.typed.specs.declared.chars.Class.{Class}
 use Rattle.typed.specs.declared.scan.State.{State}
 use Rattle.typed.specs.declared.scan.State.TheVariants.{Between, Comment, Half}
 use Rattle.typed.specs.declared.scan.Step.{Step}
 use Rattle.typed.specs.declared.scan.Step.TheVariants.{To, Whole, Stop}
-use Rattle.typed.specs.declared.scan.Checked.{Checked}
-use Rattle.typed.specs.declared.scan.Checked.TheVariants.{Bad}
-use Rattle.typed.specs.declared.scan.Spot.{Spot}
-use Rattle.typed.specs.declared.scan.Spot.TheVariants.{Missing, Stands}
+use Rattle.typed.specs.declared.scan.Byte.{Byte}
+use Rattle.typed.specs.declared.scan.Offence.{Offence}
 use Rattle.typed.specs.Chars.{class_of}
-use Rattle.typed.specs.Reading.{meets, act, Reading, slips, byte, at_end, go_on, reading, checked, spot, bytes_in}
+use Rattle.typed.specs.Reading.{meets, act, Reading, slips, byte, end, at_end, go_on, reading, reading_of, offence, checked, spot, bytes_in, items_in, items_left}
 
--- what is still to be read
+abbrev pub Items : Type 0
+Items = List (Result Byte Offence)
+
+-- what is still to be read, and what is still to be given of it
 abbrev pub Rest : List ℕ → State → ℕ → Reading
 Rest text s i = reading s i (drop i text)
 
-pub record Scanned {A : Type 0} (make : Reading → A) (whole : A) (text : List ℕ) (s : State) (i : ℕ) : Type 0 where
-  pub within : i ≤ length text
-  pub same : make (Rest text s i) ≡ whole
+abbrev pub Left : List ℕ → State → ℕ → Items
+Left text s i = items_in (Rest text s i)
 
 -- a step is what the character at an index leads to
 pub record Met (text : List ℕ) (s : State) (i : ℕ) (d : Step) : Type 0 where
@@ -38,78 +46,99 @@ pub record Met (text : List ℕ) (s : State) (i : ℕ) (d : Step) : Type 0 where
 pub met : (text : List ℕ) (s : State) (i : ℕ) (d : Step) → i < length text → d ≡ act s i (get_or text i 0) → Met text s i d
 met text s i d h e = record { inside = h; step = e }
 
-module _ {text : List ℕ} {s : State} {i : ℕ} {d : Step} where
-  turn : Met text s i d → Rest text s i ≡ go_on d (λ t. Rest text t (i + 1))
-  unfolding reading
-  turn m = rw (m.step, drop-cons text i 0 m.inside, add-one i)
-
-  module _ {A : Type 0} {make : Reading → A} {whole : A} where
-    pub goes : {t : State} → Scanned make whole text s i → Met text s i d → d ≡ To t → Scanned make whole text t (i + 1)
-    goes c m e = record { within = let h = m.inside in omega arith; same = sym (ap make (rw e at (turn m))) ∙ c.same }
-
-    pub stops : {slip : Slip} {at : ℕ} → Scanned make whole text s i → Met text s i d → d ≡ Stop slip at → make (slips slip at) ≡ whole
-    stops c m e = sym (ap make (rw e at (turn m))) ∙ c.same
-
-    makes : {v first : ℕ} → Scanned make whole text s i → Met text s i d → d ≡ Whole v first → make (byte v first (Rest text Between (i + 1))) ≡ whole
-    makes c m e = sym (ap make (rw e at (turn m))) ∙ c.same
-
-pub past : {A : Type 0} {make : Reading → A} {whole : A} {text : List ℕ} {s : State} {i : ℕ} → Scanned make whole text s i → length text ≤ i → make (at_end s) ≡ whole
+nothing_left : (text : List ℕ) (i : ℕ) → length text ≤ i → Left text Between i ≡ []
 unfolding reading
-past {text = text} c h = rw (drop_of_length-le text h) at c.same
+nothing_left text i h = rw (drop_of_length-le text h)
 
--- a byte that has no room, and one that has
-module _ {whole : Checked} {text : List ℕ} {s : State} {i : ℕ} {d : Step} {v first : ℕ} (room n : ℕ)
-    (c : Scanned (checked room n) whole text s i) (m : Met text s i d) (e : d ≡ Whole v first) where
-  pub full : room ≤ n → Bad TooMany first ≡ whole
-  full h = rw (le-ltb n room h) at (makes c m e)
+module _ {text : List ℕ} {s : State} {i : ℕ} {d : Step} {all : Items} (left : Left text s i ≡ all) where
+  turn : Met text s i d → items_in (go_on d (λ t. Rest text t (i + 1))) ≡ all
+  unfolding reading
+  turn m = rw (m.step, add-one i) (rw (drop-cons text i 0 m.inside) at left)
 
-  pub taken : n < room → Scanned (checked room (n + 1)) whole text Between (i + 1)
-  taken h = record { within = let l = m.inside in omega arith; same = rw (lt-ltb n room h, ← (add-one n)) at (makes c m e) }
+  pub goes : {t : State} → Met text s i d → d ≡ To t → Left text t (i + 1) ≡ all
+  goes m e = rw e at (turn m)
 
--- the byte that is looked for, and one before it
-module _ {whole : Spot} {text : List ℕ} {s : State} {i : ℕ} {d : Step} {v first : ℕ} (n : ℕ)
-    (c : Scanned (spot n) whole text s i) (m : Met text s i d) (e : d ≡ Whole v first) where
-  pub reached : n ≡ 0 → Stands first ≡ whole
-  reached h = rw h at (makes c m e)
+  pub gives : {v first : ℕ} → Met text s i d → d ≡ Whole v first → all ≡ Ok (record { value = v; first = first }) ∷ Left text Between (i + 1)
+  gives m e = sym (rw e at (turn m))
 
-  pub passed : (n ≡ 0 → ⊥) → Scanned (spot (n - 1)) whole text Between (i + 1)
-  passed h = record { within = let l = m.inside in omega arith; same = go n h (makes c m e) }
+  pub stops : {slip : Slip} {at : ℕ} → Met text s i d → d ≡ Stop slip at → all ≡ Err (offence slip at) ∷ Left text Between (length text)
+  stops m e = rw (nothing_left text (length text) (omega arith)) (sym (rw e at (turn m)))
+
+module _ (text : List ℕ) (s : State) (i : ℕ) {all : Items} (left : Left text s i ≡ all) (h : length text ≤ i) where
+  last : items_in (at_end s) ≡ all
+  unfolding reading
+  last = rw (drop_of_length-le text h) at left
+
+  pub cut_off : {high at : ℕ} → s ≡ Half high at → all ≡ Err (offence Alone at) ∷ Left text Between i
+  cut_off e = rw (nothing_left text i h) (sym (rw e at last))
+
+  pub over : ((high at : ℕ) → s ≡ Half high at → ⊥) → (all ≡ []) × (Left text s i ≡ [])
+  over n = let e = go s n in (sym last ∙ e, left ∙ sym last ∙ e)
     where
-      go : (n : ℕ) → (n ≡ 0 → ⊥) → spot n (byte v first (Rest text Between (i + 1))) ≡ whole → spot (n - 1) (Rest text Between (i + 1)) ≡ whole
-      go zero h x = absurd (h refl)
-      go (suc n) h x = let less : suc n - 1 ≡ n = omega arith in rw less x
+      go : (t : State) → ((high at : ℕ) → t ≡ Half high at → ⊥) → items_in (at_end t) ≡ []
+      go Between m = refl
+      go Comment m = refl
+      go (Half high at) m = absurd (m high at refl)
 
--- the end of a text has no bytes
-none_at-end : (s : State) → bytes_in (at_end s) ≡ []
-none_at-end Between = refl
-none_at-end Comment = refl
-none_at-end (Half high first) = refl
-
-missing-at_end : (n : ℕ) (s : State) → spot n (at_end s) ≡ Missing
-missing-at_end n Between = refl
-missing-at_end n Comment = refl
-missing-at_end n (Half high first) = refl
-
-sets_past : (l : List ℕ) (i : ℕ) (vs : List ℕ) → length l ≤ i → sets l i vs ≡ l
-sets_past l i [] h = refl
-sets_past l i (v ∷ vs) h = rw (set_out l i v h) (sets_past l (suc i) vs (omega arith))
-
--- a byte that is put, and one for which there is no room: what is stored past the end is stored nowhere
-module _ {whole : List ℕ} {text : List ℕ} {s : State} {i : ℕ} (out : List ℕ) (n : ℕ) (c : Scanned (λ r. sets out n (bytes_in r)) whole text s i) where
-  pub put : {d : Step} {v first : ℕ} → Met text s i d → d ≡ Whole v first → Scanned (λ r. sets (set out n v) (n + 1) (bytes_in r)) whole text Between (i + 1)
-  put m e = record { within = let l = m.inside in omega arith; same = rw (add-one n) (makes c m e) }
-
-  pub filled : length out ≤ n → out ≡ whole
-  filled h = sym (sets_past out n (bytes_in (Rest text s i)) h) ∙ c.same
-
-  pub all_put : length text ≤ i → out ≡ whole
-  all_put h = rw (none_at-end s) at (past c h)
-
--- no byte is left at the end
-pub missed : {whole : Spot} {text : List ℕ} {s : State} {i : ℕ} (n : ℕ) → Scanned (spot n) whole text s i → length text ≤ i → Missing ≡ whole
-missed {s = s} n c h = sym (missing-at_end n s) ∙ past c h
+pub shorter : {item : Result Byte Offence} {more all : Items} → all ≡ item ∷ more → length more < length all
+shorter e = rw e (omega arith)
 
 -- what a state, its character's class and the answer of one arm come to
 pub acts : (s t : State) (at c : ℕ) (k : Class) (r : Step) → s ≡ t → k ≡ class_of c → r ≡ meets t at c k → r ≡ act s at c
 unfolding act
 acts s t at c k r e f g = g ∙ rw (e, f)
+
+-- what the check makes of the items: it counts the bytes, and stops at a slip or at a byte that has no room
+abbrev pub counted : ℕ → ℕ → Items → Result ℕ Offence
+counted room n [] = Ok n
+counted room n (Ok b ∷ is) = cond (ltb n room) (counted room (suc n) is) (Err (offence TooMany b.first))
+counted room n (Err o ∷ is) = Err o
+
+pub counted_is : (room n : ℕ) (r : Reading) → counted room n (items_in r) ≡ checked room n r
+counted_is room n end = refl
+counted_is room n (slips slip at) = refl
+counted_is room n (byte v first r) = rw (counted_is room (suc n) r)
+
+-- where the byte of an item stands
+abbrev pub spot_of : Option (Result Byte Offence) → Option ℕ
+spot_of None = None
+spot_of (Some item) = option_map (λ b. b.first) (result_ok item)
+
+pub spot_is : (n : ℕ) (r : Reading) → spot n r ≡ spot_of (slice_get (items_in r) n)
+spot_is n end = refl
+spot_is zero (slips slip at) = refl
+spot_is (suc n) (slips slip at) = refl
+spot_is zero (byte v first r) = refl
+spot_is (suc n) (byte v first r) = spot_is n r
+
+-- the item of a number is the byte that is looked for, or there is none
+module _ (n : ℕ) (text : List ℕ) (r : Option (Result Byte Offence)) (given : option_map (λ i. i) r ≡ slice_get (items_in (reading_of text)) n) where
+  spotted : spot_of r ≡ spot n (reading_of text)
+  spotted = ap spot_of (sym (option_map_id r) ∙ given) ∙ sym (spot_is n (reading_of text))
+
+  pub missed : r ≡ None → None ≡ spot n (reading_of text)
+  missed e = rw e at spotted
+
+  pub reached : {item : Result Byte Offence} (o : Option Byte) → r ≡ Some item → o ≡ result_ok item → option_map (λ b. b.first) o ≡ spot n (reading_of text)
+  reached o e f = rw f (rw e at spotted)
+
+-- the bytes of the items, up to the first slip
+abbrev pub values : Items → List ℕ
+values [] = []
+values (Ok b ∷ is) = b.value ∷ values is
+values (Err o ∷ is) = []
+
+pub values_are : (r : Reading) → values (items_in r) ≡ bytes_in r
+values_are end = refl
+values_are (slips slip at) = refl
+values_are (byte v first r) = rw (values_are r)
+
+sets_past : (l : List ℕ) (i : ℕ) (vs : List ℕ) → length l ≤ i → sets l i vs ≡ l
+sets_past l i [] h = refl
+sets_past l i (v ∷ vs) h = rw (set_out l i v h) (sets_past l (suc i) vs (omega arith))
+
+-- the places of a buffer have come to their end, or the items have
+pub filled : (out whole : List ℕ) (places : Range ℕ) (scan : Scan) → places.end ≡ length out → sets out places.start (values (items_left scan)) ≡ whole
+    → ((u : Range ℕ) × nat_range_steps places None u) ⊎ ((u : Scan) × YieldsFirst items_left scan None u) → out ≡ whole
+filled out whole places scan e f (inl w) = sym (sets_past out places.start (values (items_left scan)) (let z = w.1.1.0 in omega arith)) ∙ f
+filled out whole places scan e f (inr w) = rw w.1.0 at f

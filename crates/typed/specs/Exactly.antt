@@ -12,13 +12,12 @@ use Rattle.typed.specs.declared.scan.State.{State}
 use Rattle.typed.specs.declared.scan.State.TheVariants.{Between, Comment, Half}
 use Rattle.typed.specs.declared.scan.Step.{Step}
 use Rattle.typed.specs.declared.scan.Step.TheVariants.{To, Whole, Stop}
-use Rattle.typed.specs.declared.scan.Spot.TheVariants.{Stands}
-use Rattle.typed.specs.declared.scan.Checked.{Checked}
-use Rattle.typed.specs.declared.scan.Checked.TheVariants.{Good, Bad}
 use Rattle.typed.specs.Chars.{digit_class, class_digit, is_digit, class_of}
 use Rattle.typed.specs.Reading.{Reading, end, slips, byte, meets, act, go_on, at_end, reading, reading_of, spot}
 use Rattle.typed.specs.Offences.{class_at, digit_at, in_comment, begins, begun, separates, Offends}
 use Rattle.typed.specs.Spots.{peel}
+use Rattle.std.specs.Prelude.{Err, Ok, Result, Some}
+use Rattle.typed.specs.declared.scan.Offence.{Offence}
 
 pub true_false : {A : Type 0} (b : Bool) → b ≡ true → b ≡ false → A
 true_false b p q = absurd (let z : ◌≡◌ {A = Bool} true false = sym p ∙ q in let y : ◌≡◌ {A = ℕ} 0 1 = cc in omega arith)
@@ -131,14 +130,14 @@ module _ (text : List ℕ) where
       go (Whole v first) a more = (a.0, a.1, more Between (suc n) a.2)
       go (Stop slip first) a more = tt
 
-  begun-spot : (i n : ℕ) (r : Reading) → Begun n r → (at : ℕ) → spot i r ≡ Stands at → (begins text at ≡ true) × (begun text at ≡ n + i)
+  begun-spot : (i n : ℕ) (r : Reading) → Begun n r → (at : ℕ) → spot i r ≡ Some at → (begins text at ≡ true) × (begun text at ≡ n + i)
   begun-spot i n end b at e = absurd (let z : ◌≡◌ {A = ℕ} 0 1 = cc in omega arith)
   begun-spot i n (slips slip j) b at e = absurd (let z : ◌≡◌ {A = ℕ} 0 1 = cc in omega arith)
   begun-spot zero n (byte v first r) b at e = let z : first ≡ at = cc in (rw (← z) b.0, rw (← z) (let y = b.1 in omega arith))
   begun-spot (suc i) n (byte v first r) b at e = let w = begun-spot i (suc n) r b.2 at e in (w.0, let y = w.1 in omega arith)
 
   -- byte i stands where a byte begins that has i before it
-  pub spot-begins : (i at : ℕ) → spot i (reading_of text) ≡ Stands at → (begins text at ≡ true) × (begun text at ≡ i)
+  pub spot-begins : (i at : ℕ) → spot i (reading_of text) ≡ Some at → (begins text at ≡ true) × (begun text at ≡ i)
   spot-begins i at e =
       let w = begun-spot i 0 (reading_of text) (begun-from text Between 0 0 refl (refl, refl, refl)) at e in
       (w.0, let y = w.1 in omega arith)
@@ -149,9 +148,9 @@ module _ (text : List ℕ) where
     Quiet i = (k : Slip) → Offends text room k i → ⊥
 
     -- what is told is the first offence from an index on
-    abbrev pub Verdict : ℕ → Checked → Type 0
-    Verdict from (Good m) = (begun text (length text) ≡ m) × ((k : Slip) (j : ℕ) → from ≤ j → Offends text room k j → ⊥)
-    Verdict from (Bad slip i) = Offends text room slip i × (from ≤ i) × ((k : Slip) (j : ℕ) → from ≤ j → j < i → Offends text room k j → ⊥)
+    abbrev pub Verdict : ℕ → Result ℕ Offence → Type 0
+    Verdict from (Ok m) = (begun text (length text) ≡ m) × ((k : Slip) (j : ℕ) → from ≤ j → Offends text room k j → ⊥)
+    Verdict from (Err o) = Offends text room o.slip o.at × (from ≤ o.at) × ((k : Slip) (j : ℕ) → from ≤ j → j < o.at → Offends text room k j → ⊥)
 
     -- from which index on nothing is settled
     abbrev pub since : State → ℕ → ℕ

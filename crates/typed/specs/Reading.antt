@@ -1,6 +1,7 @@
 -- What a text says: its bytes in order, each with the index of its first digit, up to the end of the text or the first slip. A machine goes over the
 -- text from left to right, one character a step; it knows no lines.
-use Rattle.std.specs.Prelude.{ℕ, zero, suc, cond, List, [], ◌∷◌, ltb}
+use Rattle.std.specs.Prelude.{ℕ, zero, suc, ◌≡◌, cond, List, [], ◌∷◌, ltb, drop}
+use Rattle.std.proofs.Common.{ap}
 use Rattle.typed.specs.declared.Slip.{Slip}
 use Rattle.typed.specs.declared.Slip.TheVariants.{Stray, Alone, TooMany}
 use Rattle.typed.specs.declared.chars.Class.{Class}
@@ -9,11 +10,11 @@ use Rattle.typed.specs.declared.scan.State.{State}
 use Rattle.typed.specs.declared.scan.State.TheVariants.{Between, Comment, Half}
 use Rattle.typed.specs.declared.scan.Step.{Step}
 use Rattle.typed.specs.declared.scan.Step.TheVariants.{To, Whole, Stop}
-use Rattle.typed.specs.declared.scan.Checked.{Checked}
-use Rattle.typed.specs.declared.scan.Checked.TheVariants.{Good, Bad}
-use Rattle.typed.specs.declared.scan.Spot.{Spot}
-use Rattle.typed.specs.declared.scan.Spot.TheVariants.{Missing, Stands}
 use Rattle.typed.specs.Chars.{class_of, byte_of}
+use Rattle.std.specs.Prelude.{Err, None, Ok, Option, Result, Some}
+use Rattle.typed.specs.declared.scan.Byte.{Byte}
+use Rattle.typed.specs.declared.scan.Offence.{Offence}
+use Rattle.typed.specs.declared.scan.Scan.{Scan}
 
 -- 1: a character that is neither a digit nor a space, tab, carriage return, newline or `#`; 2: a digit alone; 3: more bytes than there is room for
 abbrev pub number_of : Slip → ℕ
@@ -72,18 +73,34 @@ bytes_in end = []
 bytes_in (slips slip at) = []
 bytes_in (byte v first r) = v ∷ bytes_in r
 
--- with room for so many bytes, of which n are taken: how many there are in all, or the first slip
-abbrev pub checked : ℕ → ℕ → Reading → Checked
-checked room n end = Good n
-checked room n (slips slip at) = Bad slip at
-checked room n (byte v first r) = cond (ltb n room) (checked room (suc n) r) (Bad TooMany first)
+abbrev pub offence : Slip → ℕ → Offence
+offence slip at = record { slip = slip; at = at }
 
-abbrev pub checked_of : List ℕ → ℕ → Checked
+pub offence_parts : {k m : Slip} {i j : ℕ} → ◌≡◌ {A = Result ℕ Offence} (Err (offence k i)) (Err (offence m j)) → (k ≡ m) × (i ≡ j)
+offence_parts {k} {m} {i} {j} e = let z : offence k i ≡ offence m j = cc in (ap (λ o. o.slip) z, ap (λ o. o.at) z)
+
+-- with room for so many bytes, of which n are taken: how many there are in all, or the first slip
+abbrev pub checked : ℕ → ℕ → Reading → Result ℕ Offence
+checked room n end = Ok n
+checked room n (slips slip at) = Err (offence slip at)
+checked room n (byte v first r) = cond (ltb n room) (checked room (suc n) r) (Err (offence TooMany first))
+
+abbrev pub checked_of : List ℕ → ℕ → Result ℕ Offence
 checked_of text room = checked room 0 (reading_of text)
 
 -- the index of the first digit of byte n
-abbrev pub spot : ℕ → Reading → Spot
-spot n end = Missing
-spot n (slips slip at) = Missing
-spot zero (byte v first r) = Stands first
+abbrev pub spot : ℕ → Reading → Option ℕ
+spot n end = None
+spot n (slips slip at) = None
+spot zero (byte v first r) = Some first
 spot (suc n) (byte v first r) = spot n r
+
+-- the same one by one: the bytes, and behind them the first slip
+abbrev pub items_in : Reading → List (Result Byte Offence)
+items_in end = []
+items_in (slips slip at) = Err (offence slip at) ∷ []
+items_in (byte v first r) = Ok (record { value = v; first = first }) ∷ items_in r
+
+-- what a walk over a text has still to give
+abbrev pub items_left : Scan → List (Result Byte Offence)
+items_left scan = items_in (reading scan.state scan.at (drop scan.at scan.text.now))

@@ -4,11 +4,10 @@
 use Rattle.std.specs.Prelude.{ℕ, suc, ◌+◌, ◌≤◌, ◌<◌, ◌≡◌, refl, List, [], ◌∷◌, ◌++◌, length, get_or}
 use Rattle.std.proofs.Common.{add-zero, ap, ◌∙◌, append_assoc, append-nil, arith, length-append, lt-ltb}
 use Rattle.typed.specs.declared.scan.State.TheVariants.{Between}
-use Rattle.typed.specs.declared.scan.Checked.TheVariants.{Good}
-use Rattle.typed.specs.declared.Typed.{Typed}
-use Rattle.typed.specs.declared.Typed.TheVariants.{Bytes}
 use Rattle.typed.specs.Reading.{Reading, end, byte, reading, reading_of, bytes_in, checked, checked_of}
 use Rattle.typed.specs.Promises.{told, left, bytes_of, infront, Reads}
+use Rattle.std.specs.Prelude.{Ok, Result}
+use Rattle.typed.specs.declared.Slipped.{Slipped}
 
 -- in front of a reading stand some bytes
 pub data Leads : List ℕ → Reading → Reading → Type 0 where
@@ -63,8 +62,8 @@ abbrev pub Passed : ℕ → Type 0
 Passed c = (at : ℕ) (cs : List ℕ) → reading Between at (c ∷ cs) ≡ reading Between (suc at) cs
 
 -- typed again, a text that says some bytes gives them back, in every buffer that has room
-pub says_back : (text bytes into : List ℕ) (r : Typed) (into' : List ℕ) → Says text bytes → length bytes ≤ length into → Reads text into r into'
-    → (r ≡ Bytes (length bytes)) × (into' ≡ infront bytes into)
+pub says_back : (text bytes into : List ℕ) (r : Result ℕ Slipped) (into' : List ℕ) → Says text bytes → length bytes ≤ length into → Reads text into r into'
+    → (r ≡ Ok (length bytes)) × (into' ≡ infront bytes into)
 unfolding reading
 says_back text bytes into r into' s h d =
     (d.result ∙ ap (told text) good, d.buffer ∙ ap (λ c. left c (bytes_of text) into) good ∙ ap (λ ns. infront ns into) whole)
@@ -72,8 +71,8 @@ says_back text bytes into r into' s h d =
     back : Leads bytes end (reading_of text)
     back = rw append-nil at (s.ahead 0 [])
 
-    good : checked_of text (length into) ≡ Good (length bytes)
-    good = leads_checked (length into) 0 back (omega arith) ∙ ap Good (omega arith)
+    good : checked_of text (length into) ≡ Ok (length bytes)
+    good = leads_checked (length into) 0 back (omega arith) ∙ ap Ok (omega arith)
 
     whole : bytes_of text ≡ bytes
     whole = leads_bytes back ∙ append-nil bytes

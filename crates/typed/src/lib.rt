@@ -24,78 +24,73 @@ mod text;
 ghost use Rattle.typed.specs.Promises.{Reads, Locates, Numbers};
 
 use columns::place_at;
-use scan::{Checked, Spot, check, fill, find};
+use scan::{check, fill, find};
+use std::error::Error;
+use std::fmt;
 pub use text::put_bytes;
 
-// What can be wrong with a text; `number_of` gives the numbers.
-#[derive(Clone, Copy)]
+// What can be wrong with a text; `u32::from` gives the numbers.
+#[derive(Clone, Copy, Debug, PartialEq, Eq)]
 pub enum Slip {
     Stray,
     Alone,
     TooMany,
 }
 
+impl From<Slip> for u32 {
+    ghost from_gives = { Numbers };
+
+    fn from(slip: Slip) -> u32 {
+        match slip {
+            Slip::Stray => 1,
+            Slip::Alone => 2,
+            Slip::TooMany => 3,
+        }
+    }
+}
+
 // Where a character stands.
-#[derive(Clone, Copy)]
+#[derive(Clone, Copy, Debug, PartialEq, Eq)]
 pub struct Place {
     pub line: usize,
     pub column: usize,
 }
 
-// How many bytes were read, or the first slip and where it is.
-#[derive(Clone, Copy)]
-pub enum Typed {
-    Bytes(usize),
-    Slipped(Slip, Place),
+// The first slip of a text, and where it is.
+#[derive(Clone, Copy, Debug, PartialEq, Eq)]
+pub struct Slipped {
+    pub slip: Slip,
+    pub place: Place,
 }
 
-// Where a byte was typed, if the text has that many.
-#[derive(Clone, Copy)]
-pub enum Located {
-    Nowhere,
-    At(Place),
-}
-
-// The index after what was put, if there was room for it.
-#[derive(Clone, Copy)]
-pub enum Written {
-    NoRoom,
-    Upto(usize),
-}
-
-// The number of a slip.
-pub fn number_of(slip: Slip) -> u32
-    ensures { Numbers slip result }
-{
-    match slip {
-        Slip::Stray => 1,
-        Slip::Alone => 2,
-        Slip::TooMany => 3,
+// The number of the slip, the line and the column: `slip 2 1 4`.
+impl fmt::Display for Slipped {
+    fn fmt<W: fmt::Write>(&self, f: &mut fmt::Formatter<W>) -> fmt::Result {
+        let number = u32::from(self.slip);
+        write!(f, "slip {number} {} {}", self.place.line, self.place.column)
     }
 }
 
-// Reads a text into `out`, from its front on. There is room for as many bytes as `out` has: whoever reads run files lends
-// as many as the longest has. On a slip `out` is left as it was.
-pub fn read(text: &[u8], out: &mut [u8]) -> Typed
+impl Error for Slipped {}
+
+// Reads a text into `out`, from its front on, and answers how many bytes it has, or the first slip. There is room for as
+// many bytes as `out` has: whoever reads run files lends as many as the longest has. On a slip `out` is left as it was.
+#[tactic(auto, using(crate::proofs::Spots::stop_inside, crate::proofs::Answers::accepted))]
+pub fn read(text: &[u8], out: &mut [u8]) -> Result<usize, Slipped>
     ensures { Reads text.now out.old result out.new }
 {
-    let checked = check(text, out.len());
-    match checked {
-        Checked::Good(count) => {
-            fill(text, out);
-            Typed::Bytes(count)
-        }
-        Checked::Bad(slip, at) => Typed::Slipped(slip, place_at(text, at)),
-    }
+    let count = check(text, out.len()).map_err(|offence| Slipped {
+        slip: offence.slip,
+        place: place_at(text, offence.at),
+    })?;
+    fill(text, out);
+    Ok(count)
 }
 
-// Where the first digit of byte `i` stands. Bytes behind a slip are not counted.
-pub fn place_of(text: &[u8], i: usize) -> Located
+// Where the first digit of byte `i` stands, if the text has that many. Bytes behind a slip are not counted.
+#[tactic(auto, using(crate::proofs::Spots::spot_inside))]
+pub fn place_of(text: &[u8], i: usize) -> Option<Place>
     ensures { Locates text.now i result }
 {
-    let spot = find(text, i);
-    match spot {
-        Spot::Missing => Located::Nowhere,
-        Spot::Stands(at) => Located::At(place_at(text, at)),
-    }
+    find(text, i).map(|at| place_at(text, at))
 }

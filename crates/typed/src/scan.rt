@@ -1,16 +1,18 @@
-// The text from left to right: what each character leads to, and the three loops that go by it.
+// The text from left to right: what each character leads to, the bytes that come of it one by one, and what is made of
+// them.
 //
-// The loops know no lines: a slip and a byte are found by the index of their character.
+// Nothing here knows lines: a slip and a byte are found by the index of their character.
 ghost use Rattle.std.specs.Prelude.{◌≡◌, ℕ};
+ghost use Rattle.std.specs.Iterator.{YieldsFirst, item_count};
 ghost use Rattle.std.proofs.lemmas.List.Edits.{sets};
 ghost use Rattle.typed.specs.declared.scan.State.TheVariants.{Between, Comment, Half};
-ghost use Rattle.typed.specs.Reading.{meets, act, at_end, checked, reading_of, checked_of, spot, bytes_in};
+ghost use Rattle.typed.specs.Reading.{meets, act, checked_of, reading_of, items_in, items_left, spot, bytes_in};
 
 use super::Slip;
 use super::chars::{Class, byte_of, class_of};
 
 // Between two bytes; in a comment; or after the first digit of a byte: that digit, and its index.
-#[derive(Clone, Copy)]
+#[derive(Clone, Copy, Debug, PartialEq, Eq)]
 pub enum State {
     Between,
     Comment,
@@ -18,25 +20,25 @@ pub enum State {
 }
 
 // What a character leads to: another state; a byte that is whole, with the index of its first digit; or a slip.
-#[derive(Clone, Copy)]
+#[derive(Clone, Copy, Debug, PartialEq, Eq)]
 pub enum Step {
     To(State),
     Whole(u8, usize),
     Stop(Slip, usize),
 }
 
-// The number of bytes, or the first slip and its index.
-#[derive(Clone, Copy)]
-pub enum Checked {
-    Good(usize),
-    Bad(Slip, usize),
+// A byte, and the index of its first digit.
+#[derive(Clone, Copy, Debug, PartialEq, Eq)]
+pub struct Byte {
+    pub value: u8,
+    pub first: usize,
 }
 
-// The index of a byte's first digit, if the text has that many bytes.
-#[derive(Clone, Copy)]
-pub enum Spot {
-    Missing,
-    Stands(usize),
+// A slip, and the index at which it is told.
+#[derive(Clone, Copy, Debug, PartialEq, Eq)]
+pub struct Offence {
+    pub slip: Slip,
+    pub at: usize,
 }
 
 fn from_between(class: Class, at: usize, c: u8) -> Step
@@ -44,8 +46,7 @@ fn from_between(class: Class, at: usize, c: u8) -> Step
 {
     match class {
         Class::Digit => Step::To(State::Half(c, at)),
-        Class::Blank => Step::To(State::Between),
-        Class::NewLine => Step::To(State::Between),
+        Class::Blank | Class::NewLine => Step::To(State::Between),
         Class::Hash => Step::To(State::Comment),
         Class::Other => Step::Stop(Slip::Stray, at),
     }
@@ -55,11 +56,8 @@ fn from_comment(class: Class) -> Step
     ensures { (at c : ℕ) → result ≡ meets Comment at c class }
 {
     match class {
-        Class::Digit => Step::To(State::Comment),
-        Class::Blank => Step::To(State::Comment),
         Class::NewLine => Step::To(State::Between),
-        Class::Hash => Step::To(State::Comment),
-        Class::Other => Step::To(State::Comment),
+        Class::Digit | Class::Blank | Class::Hash | Class::Other => Step::To(State::Comment),
     }
 }
 
@@ -70,9 +68,7 @@ fn from_half(class: Class, high: u8, first: usize, here: usize, c: u8) -> Step
 {
     match class {
         Class::Digit => Step::Whole(byte_of(high, c), first),
-        Class::Blank => Step::Stop(Slip::Alone, first),
-        Class::NewLine => Step::Stop(Slip::Alone, first),
-        Class::Hash => Step::Stop(Slip::Alone, first),
+        Class::Blank | Class::NewLine | Class::Hash => Step::Stop(Slip::Alone, first),
         Class::Other => Step::Stop(Slip::Stray, here),
     }
 }
@@ -89,100 +85,98 @@ fn step_of(state: State, at: usize, c: u8) -> Step
     }
 }
 
-// What the end of the text leads to.
-fn ending_of(state: State, count: usize) -> Checked
-    ensures { (room : ℕ) → result ≡ checked room count (at_end state) }
-{
-    match state {
-        State::Between => Checked::Good(count),
-        State::Comment => Checked::Good(count),
-        State::Half(high, first) => Checked::Bad(Slip::Alone, first),
+// A text of which the characters before an index have been read. It gives the bytes in order, and then the first slip, if
+// there is one, and nothing behind it.
+#[derive(Drop)]
+pub struct Scan<'a> {
+    text: &'a [u8],
+    at: usize,
+    state: State,
+}
+
+impl<'a> Scan<'a> {
+    fn new(text: &'a [u8]) -> Scan<'a>
+        ensures { items_left result ≡ items_in (reading_of text.now) }
+    {
+        Scan {
+            text,
+            at: 0,
+            state: State::Between,
+        }
+    }
+}
+
+impl<'a> Iterator for Scan<'a> {
+    type Item = Result<Byte, Offence>;
+
+    ghost next_gives = { YieldsFirst items_left };
+
+    ghost remaining = { item_count items_left };
+
+    fn next(&mut self) -> Option<Result<Byte, Offence>> {
+        while self.at < self.text.len() {
+            let step = step_of(self.state, self.at, self.text[self.at]);
+            self.at += 1;
+            match step {
+                Step::To(state) => self.state = state,
+                Step::Whole(value, first) => {
+                    self.state = State::Between;
+                    return Some(Ok(Byte { value, first }));
+                }
+                Step::Stop(slip, at) => {
+                    self.at = self.text.len();
+                    self.state = State::Between;
+                    return Some(Err(Offence { slip, at }));
+                }
+            }
+        }
+        let State::Half(_, at) = self.state else {
+            return None;
+        };
+        self.state = State::Between;
+        Some(Err(Offence {
+            slip: Slip::Alone,
+            at,
+        }))
     }
 }
 
 // The number of bytes, or the first slip.
-pub fn check(text: &[u8], room: usize) -> Checked
+#[tactic(auto, using(crate::proofs::Scanning::counted_is))]
+pub fn check(text: &[u8], room: usize) -> Result<usize, Offence>
     ensures { result ≡ checked_of text.now room }
 {
-    let mut state = State::Between;
     let mut count = 0;
-    let mut i = 0;
-    while i < text.len() {
-        let step = step_of(state, i, text[i]);
-        i += 1;
-        match step {
-            Step::To(next) => {
-                state = next;
-            }
-            Step::Whole(value, first) => {
-                if count >= room {
-                    return Checked::Bad(Slip::TooMany, first);
-                }
-                count += 1;
-                state = State::Between;
-            }
-            Step::Stop(slip, at) => {
-                return Checked::Bad(slip, at);
-            }
+    for item in Scan::new(text) {
+        let byte = item?;
+        if count >= room {
+            return Err(Offence {
+                slip: Slip::TooMany,
+                at: byte.first,
+            });
         }
+        count += 1;
     }
-    ending_of(state, count)
+    Ok(count)
 }
 
 // The index of the first digit of a byte, by the byte's number.
-pub fn find(text: &[u8], which: usize) -> Spot
+pub fn find(text: &[u8], which: usize) -> Option<usize>
     ensures { result ≡ spot which (reading_of text.now) }
 {
-    let mut state = State::Between;
-    let mut left = which;
-    let mut i = 0;
-    while i < text.len() {
-        let step = step_of(state, i, text[i]);
-        i += 1;
-        match step {
-            Step::To(next) => {
-                state = next;
-            }
-            Step::Whole(value, first) => {
-                if left == 0 {
-                    return Spot::Stands(first);
-                }
-                left -= 1;
-                state = State::Between;
-            }
-            Step::Stop(slip, at) => {
-                return Spot::Missing;
-            }
-        }
-    }
-    Spot::Missing
+    let byte = Scan::new(text).nth(which)?.ok()?;
+    Some(byte.first)
 }
 
 // Puts the bytes that stand before the first slip, as many as there is room for.
+#[tactic(auto, using(crate::proofs::Scanning::values_are))]
 pub fn fill(text: &[u8], out: &mut [u8])
     ensures { out.new ≡ sets out.old 0 (bytes_in (reading_of text.now)) }
 {
-    let mut state = State::Between;
-    let mut count = 0;
-    let mut i = 0;
-    while i < text.len() {
-        let step = step_of(state, i, text[i]);
-        i += 1;
-        match step {
-            Step::To(next) => {
-                state = next;
-            }
-            Step::Whole(value, first) => {
-                if count >= out.len() {
-                    return;
-                }
-                out[count] = value;
-                count += 1;
-                state = State::Between;
-            }
-            Step::Stop(slip, at) => {
-                return;
-            }
-        }
+    for (i, item) in (0..out.len()).zip(Scan::new(text)) {
+        let Ok(byte) = item else {
+            return;
+        };
+        out[i] = byte.value;
     }
 }

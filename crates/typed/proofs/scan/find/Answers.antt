@@ -1,18 +1,21 @@
--- `find` meets its contract. Invariant: byte `left` of what is still to be read is the byte looked for. Measure: the characters left.
-use Rattle.typed.proofs.Scanning.{met, goes, stops, reached, passed, missed}
+-- `find` meets its contract: the item of that number, if it is a byte.
+use mathlib.Core.Path.{sym, ◌∙◌}
+use Rattle.std.proofs.lemmas.Iterator.Consumers.{nth_from_yields_List, YieldsList-from_first}
+use Rattle.typed.specs.Reading.{items_left}
+use Rattle.typed.proofs.Scanning.{missed, reached}
 use Rattle.typed.proofs.scan.find.Goals as goal
 
-pub loop-i-preserved-in-To : goal.loop-i-preserved-in-To
-loop-i-preserved-in-To c = goes c.loop-i.invariant (met _ _ _ _ c.loop-i-test.true c.step_of-step.ensures) c.in-To.is
+pub returns-in_err-nth : goal.returns-in_err-nth
+returns-in_err-nth c =
+    let given = nth_from_yields_List _ c.nth.new.self _ c.nth.ensures.ran (YieldsList-from_first (λ x. x) items_left _ c.new.ensures) in
+    c.from_residual.ensures ∙ missed _ _ _ given c.in_err-nth.was
 
-pub returns-then-left-eq0 : goal.returns-then-left-eq0
-returns-then-left-eq0 c = reached _ c.loop-i.invariant (met _ _ _ _ c.loop-i-test.true c.step_of-step.ensures) c.in-Whole.is c.if-left-eq0.true
-
-pub loop-i-preserved : goal.loop-i-preserved
-loop-i-preserved c = passed _ c.loop-i.invariant (met _ _ _ _ c.loop-i-test.true c.step_of-step.ensures) c.in-Whole.is c.if-left-eq0.false
-
-pub returns-in-Stop : goal.returns-in-Stop
-returns-in-Stop c = stops c.loop-i.invariant (met _ _ _ _ c.loop-i-test.true c.step_of-step.ensures) c.in-Stop.is
+pub returns-in_err-byte : goal.returns-in_err-byte
+returns-in_err-byte c =
+    let given = nth_from_yields_List _ c.nth.new.self _ c.nth.ensures.ran (YieldsList-from_first (λ x. x) items_left _ c.new.ensures) in
+    c.from_residual-in_err-byte.ensures ∙ reached _ _ _ given _ c.in_ok-nth.was (sym c.in_err-byte.was ∙ c.ok.ensures.value)
 
 pub returns : goal.returns
-returns c = missed _ c.loop-i.invariant c.loop-i-test.false
+returns c =
+    let given = nth_from_yields_List _ c.nth.new.self _ c.nth.ensures.ran (YieldsList-from_first (λ x. x) items_left _ c.new.ensures) in
+    reached _ _ _ given _ c.in_ok-nth.was (sym c.in_ok-byte.was ∙ c.ok.ensures.value)

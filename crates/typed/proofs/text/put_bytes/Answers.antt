@@ -1,23 +1,21 @@
 -- `put_bytes` meets its contract: no room, or the bytes and behind them their comment.
-use Prim.Native.Nat.{ℕ, ◌+◌, ◌-◌, ◌≤◌, ◌<◌}
-use mathlib.Core.Path.{◌≡◌, sym, ◌∙◌}
-use mathlib.Core.Bool.{Bool, true, false}
+use mathlib.Core.Path.{sym}
 use native.Mathlib.Omega.{arith}
-use lib.Dec.{leb}
 use borrow.Author.Tests.{leb-true, leb-false}
 use Rattle.typed.proofs.Answers.{no_room, written}
 use Rattle.typed.proofs.text.put_bytes.Goals as goal
 
-fitting : (at size all : ℕ) (r : Bool) → at ≤ all → r ≡ leb size (all - at) → r ≡ true → at + size ≤ all
-fitting at size all r h e t = let w = leb-true size (all - at) (sym e ∙ t) in omega arith
+pub returns-in_err-room : goal.returns-in_err-room
+returns-in_err-room c = let past = c.in_err-room.ensures in rw c.from_residual.ensures (no_room _ _ _ _ (omega arith))
 
-too_long : (at size all : ℕ) (r : Bool) → at ≤ all → r ≡ leb size (all - at) → r ≡ false → all < at + size
-too_long at size all r h e t = let w = leb-false size (all - at) (sym e ∙ t) in omega arith
-
-pub returns-then-has_room : goal.returns-then-has_room
-returns-then-has_room c =
-    let room = fitting _ _ _ _ c.if-at-out.false c.has_room.ensures c.if-has_room.true in
-    written _ _ _ _ _ _ _ _ room c.last_of.ensures c.put_pairs.ensures c.put_comment.ensures.0 c.put_comment.ensures.1
+pub returns-then-not-has_room : goal.returns-then-not-has_room
+returns-then-not-has_room c =
+    let room = c.in_ok-room.ensures in
+    let more = leb-false _ _ (sym c.if-not-has_room.ensures) in
+    no_room _ _ _ _ (omega arith)
 
 pub returns : goal.returns
-returns c = no_room _ _ _ _ (too_long _ _ _ _ c.if-at-out.false c.has_room.ensures c.if-has_room.false)
+returns c =
+    let room = c.in_ok-room.ensures in
+    let fits = leb-true _ _ (sym c.if-not-has_room.ensures) in
+    written _ _ _ _ _ _ _ _ (omega arith) c.last_of.ensures c.put_pairs.ensures c.put_comment.ensures.0 c.put_comment.ensures.1

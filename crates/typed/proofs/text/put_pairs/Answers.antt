@@ -1,19 +1,9 @@
--- `put_pairs` meets its contract. Invariant: the bytes still to be put, from here on, give the whole. Measure: how many they are.
-use native.Mathlib.Omega.{arith}
-use lib.ListN.{length-set}
+-- `put_pairs` meets its contract. Invariant: the bytes still to be put, from here on, give the whole.
 use Rattle.typed.proofs.Putting.{one_more, done}
 use Rattle.typed.proofs.text.put_pairs.Goals as goal
 
 pub loop-i-preserved : goal.loop-i-preserved
-loop-i-preserved c =
-    let inv = c.loop-i.invariant in
-    record {
-      within = omega arith;
-      count = inv.count;
-      place = omega arith;
-      as_long = simp length-set inv.as_long;
-      to_put = one_more _ _ _ _ _ _ _ _ _ _ c.loop-i-test.true c.digit_of.ensures c.digit_of-in-loop-i.ensures c.after_byte.ensures inv.to_put;
-    }
+loop-i-preserved c = one_more _ _ _ _ _ _ _ _ _ _ c.loop-i-test.true c.digit_of.ensures c.digit_of-in-loop-i.ensures c.after_byte.ensures c.loop-i.invariant
 
 pub returns : goal.returns
-returns c = done _ _ _ _ _ _ _ c.loop-i-test.false c.loop-i.invariant.to_put
+returns c = done _ _ _ _ _ _ _ c.loop-i-test.false c.loop-i.invariant

@@ -1,0 +1,12 @@
+-- `next` keeps what the iterator says of itself. Invariant: what is still to be given is what was to be given. Measure: the characters left.
+use Prim.Native.Nat.{◌-◌}
+use mathlib.Core.Path.{◌≡◌}
+use lib.ListN.{length}
+use Rattle.typed.specs.Reading.{items_left}
+use Rattle.typed.proofs.scan.ScanIterator.next.Given as goal
+
+abbrev pub invariant-loop-self : goal.invariant-loop-self
+invariant-loop-self l = items_left l.self ≡ items_left l.initial.self
+
+abbrev pub decreases-loop-self : goal.decreases-loop-self
+decreases-loop-self l = length l.self.text.now - l.self.at
