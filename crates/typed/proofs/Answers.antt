@@ -8,18 +8,13 @@ use borrow.Author.Tests.{lt-leb, le-leb}
 use lib.ListN.{length, take, drop, replicate}
 use borrow.Rule.Slice.PartMut.{put_mid}
 use lib.Seq.{sets, sets-eq, drop-drop}
-use Rattle.typed.specs.declared.Slip.{Slip}
-use Rattle.typed.specs.declared.Place.{Place}
-use Rattle.typed.specs.Reading.{checked_of, reading_of, spot}
-use Rattle.typed.specs.Places.{place_at}
+use Rattle.std.proofs.Common.{append_assoc, length-take, length-drop}
+use Rattle.std.specs.Prelude.{None, Ok, Some}
+use Rattle.typed.specs.Reading.{checked_of}
 use Rattle.typed.specs.Writing.{paired, length-paired, gap, spaces, length-spaces, remark, last_of, comment_of, comment_size, text_of, text_size, length_text}
 use Rattle.typed.specs.Spots.{count_is}
-use Rattle.typed.specs.Promises.{told, left, bytes_of, infront, located, written_to, leaves, Reads, Locates, Puts}
-use Rattle.std.proofs.Common.{append_assoc, length-take, length-drop}
+use Rattle.typed.specs.Promises.{told, left, bytes_of, infront, written_to, leaves, Reads, Puts}
 use Rattle.typed.proofs.Putting.{sets_append}
-use Rattle.std.specs.Prelude.{Err, None, Ok, Some}
-use Rattle.typed.specs.Reading.{offence}
-use Rattle.typed.specs.Promises.{slip_at}
 
 -- numbers stored from the front on stand in front
 pub stored : (ns out : List ℕ) → length ns ≤ length out → sets out 0 ns ≡ infront ns out
@@ -30,16 +25,6 @@ accepted text out out' n e f =
     let w = count_is text (length out) n e in
     let fits : length (bytes_of text) ≤ length out = rw w.1 w.0 in
     record { result = sym (ap (told text) e); buffer = f ∙ stored (bytes_of text) out fits ∙ sym (ap (λ c. left c (bytes_of text) out) e) }
-
-pub slipped : (text out : List ℕ) (slip : Slip) (at : ℕ) (p : Place) → checked_of text (length out) ≡ Err (offence slip at) → p ≡ place_at text at → Reads text out (Err (slip_at slip p)) out
-slipped text out slip at p e f =
-    record { result = ap (λ x. Err (slip_at slip x)) f ∙ sym (ap (told text) e); buffer = sym (ap (λ c. left c (bytes_of text) out) e) }
-
-pub nowhere : (text : List ℕ) (i : ℕ) → spot i (reading_of text) ≡ None → Locates text i None
-nowhere text i e = record { result = sym (ap (located text) e) }
-
-pub somewhere : (text : List ℕ) (i at : ℕ) (p : Place) → spot i (reading_of text) ≡ Some at → p ≡ place_at text at → Locates text i (Some p)
-somewhere text i at p e f = record { result = ap Some f ∙ sym (ap (located text) e) }
 
 -- a part of a buffer that is filled with spaces
 spaces_are : (n : ℕ) → replicate n 32 ≡ spaces n

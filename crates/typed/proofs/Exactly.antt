@@ -1,10 +1,10 @@
 -- A text is told a slip exactly when that is its first offence, and is accepted exactly when it has none. By induction on what is still to be
 -- read: what the machine remembers is what Offences.antt says of the characters before.
-use Rattle.std.specs.Prelude.{ℕ, zero, suc, ◌≤◌, ◌<◌, ◌≡◌, refl, Bool, false, cond, ◌&&◌, ◌↔◌, eqb, ltb, length, get_or, drop}
+use mathlib.Core.List.{List, [], ◌∷◌}
+use Rattle.std.specs.Prelude.{ℕ, zero, suc, ◌≤◌, ◌<◌, ◌≡◌, refl, Bool, false, cond, ◌&&◌, ◌↔◌, eqb, ltb, length, get_or, drop, Err, Ok, Result}
 use Rattle.std.proofs.Common.{sym, ◌∙◌, arith, length-drop, ltb-true, ltb-false, eqb-true}
 use Rattle.std.proofs.Math.Path.{ap}
 use Rattle.std.proofs.Math.Bool.{true}
-use mathlib.Core.List.{List, [], ◌∷◌}
 use Rattle.std.proofs.Math.ListN.{get_or-eq_default}
 use Rattle.std.proofs.lemmas.Bool.{eqb-false}
 use Rattle.typed.specs.declared.Slip.{Slip}
@@ -13,14 +13,12 @@ use Rattle.typed.specs.declared.chars.Class.{Class}
 use Rattle.typed.specs.declared.chars.Class.TheVariants.{Digit, Blank, NewLine, Hash, Other}
 use Rattle.typed.specs.declared.scan.State.{State}
 use Rattle.typed.specs.declared.scan.State.TheVariants.{Between, Comment, Half}
+use Rattle.typed.specs.declared.scan.Offence.{Offence}
 use Rattle.typed.specs.Chars.{digit_class, within, is_digit, class_of}
-use Rattle.typed.specs.Reading.{Reading, meets, act, go_on, reading, checked, checked_of}
+use Rattle.typed.specs.Reading.{Reading, meets, act, go_on, reading, checked, checked_of, offence}
 use Rattle.typed.specs.Offences.{class_at, digit_at, in_comment, begins, begun, separates, Parts, ends, apart, Offends, stray, alone, too_many, First}
 use Rattle.typed.specs.Spots.{peel}
 use Rattle.typed.specs.Exactly.{true_false, parting_digit, no_digit, begins-in_comment, begins-after, Agrees, Next, plain, agrees_next, Quiet, Verdict, since}
-use Rattle.std.specs.Prelude.{Err, Ok, Result}
-use Rattle.typed.specs.declared.scan.Offence.{Offence}
-use Rattle.typed.specs.Reading.{offence}
 
 parting_other : (k : Class) → separates k ≡ true → k ≡ Other → ⊥
 parting_other k s e = true_false (separates Other) (rw e at s) refl

@@ -1,11 +1,12 @@
 -- What `put_bytes` puts reads back: its text says its bytes, so that a text that is put piece by piece says the bytes of all pieces, whatever the comments
 -- are. By induction on the bytes and on the comment.
-use Rattle.std.specs.Prelude.{ℕ, zero, suc, ◌+◌, ◌-◌, ◌/◌, ◌%◌, ◌≤◌, ◌<◌, ◌≡◌, refl, Bool, true, false, cond, List, [], ◌∷◌, ◌++◌, eqb, ltb, length, get_or, take, drop}
+use Rattle.std.specs.Prelude.{ℕ, zero, suc, ◌+◌, ◌-◌, ◌/◌, ◌%◌, ◌≤◌, ◌<◌, ◌≡◌, refl, Bool, true, false, cond, List, [], ◌∷◌, ◌++◌, eqb, ltb, length, get_or, take, drop, Ok, Option, Result, Some}
 use Rattle.std.proofs.Common.{sym, ap, subst, ◌∙◌, append-nil, arith, length-append, length-take, take_at, take-add, get_or-take, get_or-drop, ltb-true, ltb-false, leb-true}
 use Rattle.std.proofs.Math.ListN.{get_or-eq_default}
 use Rattle.typed.specs.declared.chars.Class.{Class}
 use Rattle.typed.specs.declared.chars.Class.TheVariants.{Digit, Blank, NewLine, Hash, Other}
 use Rattle.typed.specs.declared.scan.State.TheVariants.{Between, Comment}
+use Rattle.typed.specs.declared.Slipped.{Slipped}
 use Rattle.typed.specs.Chars.{in_range, above, class_digit, newline_class, within, is_digit, is_blank, class_of, value_of, byte_of, digit_of}
 use Rattle.typed.specs.Reading.{act, meets, go_on, reading}
 use Rattle.typed.specs.Writing.{after_byte, paired, gap, spaces, on_one_line, lined, remark, comment_of, text_of}
@@ -13,8 +14,6 @@ use Rattle.typed.specs.Exactly.{true_false}
 use Rattle.typed.specs.Runs.{two-read}
 use Rattle.typed.specs.Promises.{infront, fits, written_to, leaves, Reads, Puts}
 use Rattle.typed.specs.Says.{none, more, Ahead, Says, nothing, joined, says_ahead, says_none, says-append, says_back, Small, Passed}
-use Rattle.std.specs.Prelude.{Ok, Option, Result, Some}
-use Rattle.typed.specs.declared.Slipped.{Slipped}
 
 -- the digit of a value is a digit, and worth that value
 digit_back : (v : ℕ) → v < 16 → (is_digit (digit_of v) ≡ true) × (value_of (digit_of v) ≡ v)

@@ -7,26 +7,25 @@ use native.Mathlib.Omega.{arith}
 use native.Mathlib.Numerals.{add-one}
 use lib.ListN.{length, get_or, drop, drop_of_length-le}
 use lib.Seq.{drop-cons, sets, set_out}
+use mathlib.Core.Logic.{◌⊎◌, inl, inr}
 use Rattle.std.specs.Prelude.{Err, None, Ok, Option, Result, Some, cond, ltb, slice_get}
-use Rattle.std.specs.Option.{option_map}
+use Rattle.std.specs.Option.{MatchOption, option_map}
 use Rattle.std.specs.Result.{result_ok}
 use Rattle.std.proofs.lemmas.Iterator.Adapters.{option_map_id}
 use Rattle.std.proofs.iter.Yields.{nat_range_steps}
 use Rattle.std.specs.declared.ops.Range.{Range}
-use Rattle.std.specs.Iterator.{YieldsFirst}
-use mathlib.Core.Logic.{◌⊎◌, inl, inr}
+use Rattle.std.specs.Iterator.{YieldsFirst, YieldsThen}
+use Rattle.std.proofs.lemmas.Iterator.Consumers.{nth_from_yields_List, YieldsList-from_first}
 use Rattle.typed.specs.declared.scan.Scan.{Scan}
 use Rattle.typed.specs.declared.Slip.{Slip}
 use Rattle.typed.specs.declared.Slip.TheVariants.{Alone, TooMany}
-use Rattle.typed.specs.declared.chars.Class.{Class}
 use Rattle.typed.specs.declared.scan.State.{State}
 use Rattle.typed.specs.declared.scan.State.TheVariants.{Between, Comment, Half}
 use Rattle.typed.specs.declared.scan.Step.{Step}
 use Rattle.typed.specs.declared.scan.Step.TheVariants.{To, Whole, Stop}
 use Rattle.typed.specs.declared.scan.Byte.{Byte}
 use Rattle.typed.specs.declared.scan.Offence.{Offence}
-use Rattle.typed.specs.Chars.{class_of}
-use Rattle.typed.specs.Reading.{meets, act, Reading, slips, byte, end, at_end, go_on, reading, reading_of, offence, checked, spot, bytes_in, items_in, items_left}
+use Rattle.typed.specs.Reading.{act, Reading, slips, byte, end, at_end, go_on, reading, reading_of, offence, checked, spot, bytes_in, items_in, items_left}
 
 abbrev pub Items : Type 0
 Items = List (Result Byte Offence)
@@ -43,8 +42,8 @@ pub record Met (text : List ℕ) (s : State) (i : ℕ) (d : Step) : Type 0 where
   pub inside : i < length text
   pub step : d ≡ act s i (get_or text i 0)
 
-pub met : (text : List ℕ) (s : State) (i : ℕ) (d : Step) → i < length text → d ≡ act s i (get_or text i 0) → Met text s i d
-met text s i d h e = record { inside = h; step = e }
+pub met : (text : List ℕ) (s : State) (i : ℕ) (d : Step) (c : ℕ) → (i < length text) × ((e : ℕ) → c ≡ get_or text i e) → d ≡ act s i c → Met text s i d
+met text s i d c there e = record { inside = there.0; step = e ∙ ap (act s i) (there.1 0) }
 
 nothing_left : (text : List ℕ) (i : ℕ) → length text ≤ i → Left text Between i ≡ []
 unfolding reading
@@ -83,11 +82,6 @@ module _ (text : List ℕ) (s : State) (i : ℕ) {all : Items} (left : Left text
 pub shorter : {item : Result Byte Offence} {more all : Items} → all ≡ item ∷ more → length more < length all
 shorter e = rw e (omega arith)
 
--- what a state, its character's class and the answer of one arm come to
-pub acts : (s t : State) (at c : ℕ) (k : Class) (r : Step) → s ≡ t → k ≡ class_of c → r ≡ meets t at c k → r ≡ act s at c
-unfolding act
-acts s t at c k r e f g = g ∙ rw (e, f)
-
 -- what the check makes of the items: it counts the bytes, and stops at a slip or at a byte that has no room
 abbrev pub counted : ℕ → ℕ → Items → Result ℕ Offence
 counted room n [] = Ok n
@@ -111,10 +105,11 @@ spot_is (suc n) (slips slip at) = refl
 spot_is zero (byte v first r) = refl
 spot_is (suc n) (byte v first r) = spot_is n r
 
--- the item of a number is the byte that is looked for, or there is none
-module _ (n : ℕ) (text : List ℕ) (r : Option (Result Byte Offence)) (given : option_map (λ i. i) r ≡ slice_get (items_in (reading_of text)) n) where
+-- the item of a number, as `nth` gives it, is the byte that is looked for, or there is none
+module _ (n : ℕ) (text : List ℕ) (scan after : Scan) (r : Option (Result Byte Offence)) (all : items_left scan ≡ items_in (reading_of text))
+    (ran : (xs : Items) × YieldsThen (YieldsFirst items_left) scan xs r after × MatchOption r (length xs ≤ n) (λ _. length xs ≡ n)) where
   spotted : spot_of r ≡ spot n (reading_of text)
-  spotted = ap spot_of (sym (option_map_id r) ∙ given) ∙ sym (spot_is n (reading_of text))
+  spotted = ap spot_of (sym (option_map_id r) ∙ nth_from_yields_List r after n ran (YieldsList-from_first (λ x. x) items_left _ all)) ∙ sym (spot_is n (reading_of text))
 
   pub missed : r ≡ None → None ≡ spot n (reading_of text)
   missed e = rw e at spotted

@@ -1,6 +1,6 @@
 -- Every reading is faithful: at each byte's index are its two digits, which give its value, and every slip's index is in the text. By induction on what is
 -- still to be read, with what a state remembers.
-use Rattle.std.specs.Prelude.{ℕ, zero, suc, ◌<◌, ◌≡◌, refl, Bool, true, false, cond, List, [], ◌∷◌, ltb, length, get_or, drop}
+use Rattle.std.specs.Prelude.{ℕ, zero, suc, ◌<◌, ◌≡◌, refl, Bool, true, false, cond, List, [], ◌∷◌, ltb, length, get_or, drop, Err, Some}
 use Rattle.std.proofs.Common.{sym, arith}
 use Rattle.typed.specs.declared.Slip.{Slip}
 use Rattle.typed.specs.declared.Slip.TheVariants.{TooMany}
@@ -8,12 +8,10 @@ use Rattle.typed.specs.declared.chars.Class.{Class}
 use Rattle.typed.specs.declared.chars.Class.TheVariants.{Digit, Blank, NewLine, Hash, Other}
 use Rattle.typed.specs.declared.scan.State.{State}
 use Rattle.typed.specs.declared.scan.State.TheVariants.{Between, Comment, Half}
-use Rattle.typed.specs.Chars.{digit_class, class_of, byte_of}
-use Rattle.typed.specs.Reading.{Reading, end, slips, byte, meets, act, go_on, reading, reading_of, bytes_in, checked, checked_of, spot}
-use Rattle.typed.specs.Spots.{peel, Pair, Faithful, Remembers}
-use Rattle.std.specs.Prelude.{Err, Some}
 use Rattle.typed.specs.declared.scan.Offence.{Offence}
-use Rattle.typed.specs.Reading.{offence, offence_parts}
+use Rattle.typed.specs.Chars.{digit_class, class_of, byte_of}
+use Rattle.typed.specs.Reading.{Reading, end, slips, byte, meets, act, go_on, reading, reading_of, bytes_in, checked, checked_of, spot, offence, offence_parts}
+use Rattle.typed.specs.Spots.{peel, Pair, Faithful, Remembers}
 
 pair : (text : List ℕ) (high first at c : ℕ) → Remembers text (Half high first) at → at < length text → get_or text at 0 ≡ c → class_of c ≡ Digit → Pair text (byte_of high c) first
 pair text high first at c m l g k =

@@ -1,10 +1,11 @@
 -- What the contracts of `read` and `place_of` promise, said of the answers alone: each slip exactly when it is the first offence, the bytes exactly when
 -- nothing offends, and the place of a byte. From what is told of the first offence, and of the bytes' spots.
-use Rattle.std.specs.Prelude.{ℕ, ◌≤◌, ◌<◌, ◌≡◌, refl, Bool, true, false, ltb, List, ◌↔◌, length, get_or, drop}
+use Rattle.std.specs.Prelude.{ℕ, ◌≤◌, ◌<◌, ◌≡◌, refl, Bool, true, false, ltb, List, ◌↔◌, length, get_or, drop, Err, None, Ok, Option, Result, Some}
 use Rattle.std.proofs.Common.{sym, ap, ◌∙◌, ltb-true, ltb-false, arith}
 use Rattle.std.proofs.Math.ListN.{get_or-append}
 use Rattle.typed.specs.declared.Slip.{Slip}
 use Rattle.typed.specs.declared.Place.{Place}
+use Rattle.typed.specs.declared.Slipped.{Slipped}
 use Rattle.typed.specs.Reading.{reading_of, checked_of, spot}
 use Rattle.typed.specs.Places.{place_at}
 use Rattle.typed.specs.Offences.{begun, Offends}
@@ -12,14 +13,11 @@ use Rattle.typed.specs.Spots.{spot_there}
 use Rattle.typed.specs.Exactly.{spot-begins}
 use Rattle.typed.specs.Editor.{shown_at, byte_shown}
 use Rattle.typed.specs.PlaceLaws.{char_at-place}
-use Rattle.typed.specs.Promises.{told, bytes_of, located, Reads, Locates}
+use Rattle.typed.specs.Promises.{told, bytes_of, located, Reads, Locates, slip_at}
 use Rattle.typed.specs.Told.{FirstAt, told_good, told-bad, bytes-put, Stood}
 use Rattle.typed.proofs.Spots.{slip_inside, spot_stands}
 use Rattle.typed.proofs.Exactly.{slips_exactly, accepts_exactly}
 use Rattle.typed.proofs.Editor.{slip_shown}
-use Rattle.std.specs.Prelude.{Err, None, Ok, Option, Result, Some}
-use Rattle.typed.specs.declared.Slipped.{Slipped}
-use Rattle.typed.specs.Promises.{slip_at}
 
 -- the place of the first offence is where an editor shows it
 pub slip_column : (text : List ℕ) (room : ℕ) (slip : Slip) (p : Place) (f : FirstAt text room slip p) → shown_at text f.index ≡ p

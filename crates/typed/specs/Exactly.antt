@@ -1,6 +1,6 @@
 -- What the machine remembers is what Offences.antt says of the characters before: so a byte begins where it stands, with as many bytes before it. By
 -- induction on what is still to be read. That a text is told a slip exactly when that is its first offence is proved in proofs/Exactly.antt.
-use Rattle.std.specs.Prelude.{ℕ, zero, suc, ◌+◌, ◌≤◌, ◌<◌, ◌≡◌, refl, Bool, false, not, ◌&&◌, length, get_or, drop}
+use Rattle.std.specs.Prelude.{ℕ, zero, suc, ◌+◌, ◌≤◌, ◌<◌, ◌≡◌, refl, Bool, false, not, ◌&&◌, length, get_or, drop, Err, Ok, Result, Some}
 use Rattle.std.proofs.Common.{sym, ◌∙◌, arith}
 use Rattle.std.proofs.Math.Path.{ap}
 use Rattle.std.proofs.Math.Bool.{true}
@@ -16,7 +16,6 @@ use Rattle.typed.specs.Chars.{digit_class, class_digit, is_digit, class_of}
 use Rattle.typed.specs.Reading.{Reading, end, slips, byte, meets, act, go_on, at_end, reading, reading_of, spot}
 use Rattle.typed.specs.Offences.{class_at, digit_at, in_comment, begins, begun, separates, Offends}
 use Rattle.typed.specs.Spots.{peel}
-use Rattle.std.specs.Prelude.{Err, Ok, Result, Some}
 use Rattle.typed.specs.declared.scan.Offence.{Offence}
 
 pub true_false : {A : Type 0} (b : Bool) → b ≡ true → b ≡ false → A

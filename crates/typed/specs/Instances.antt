@@ -1,13 +1,11 @@
 -- Texts and what they come to, computed: each slip is met, in the order of the text, with its line and its column.
-use Rattle.std.specs.Prelude.{◌≡◌, refl, [], ◌∷◌, ◌++◌}
+use Rattle.std.specs.Prelude.{◌≡◌, refl, [], ◌∷◌, ◌++◌, Err, None, Ok, Some}
 use Rattle.typed.specs.declared.Slip.TheVariants.{Stray, Alone, TooMany}
 use Rattle.typed.specs.Chars.{within, is_digit, is_blank, class_of, value_of, byte_of, digit_of}
 use Rattle.typed.specs.Reading.{act, reading}
 use Rattle.typed.specs.Places.{behind, place_at}
 use Rattle.typed.specs.Writing.{after_byte, paired, gap, spaces, on_one_line, lined, remark, text_of}
-use Rattle.typed.specs.Promises.{typed_of, bytes_of, located_of}
-use Rattle.std.specs.Prelude.{Err, None, Ok, Some}
-use Rattle.typed.specs.Promises.{slip_at}
+use Rattle.typed.specs.Promises.{typed_of, bytes_of, located_of, slip_at}
 
 -- `5Z 5`: the Z is told, and no lone 5 before it
 pub stray_after_digit : typed_of (53 ∷ 90 ∷ 32 ∷ 53 ∷ []) 9 ≡ Err (slip_at Stray (record { line = 1; column = 2 }))

@@ -1,12 +1,12 @@
 -- The contracts of the public functions, one record each, and that each leaves no second outcome. They ask nothing of the caller, and hold of every text
 -- and every buffer.
-use Rattle.std.specs.Prelude.{ℕ, ◌+◌, ◌≡◌, Bool, true, false, List, ◌++◌, leb, length, take, drop}
+use Rattle.std.specs.Prelude.{ℕ, ◌+◌, ◌≡◌, Bool, true, false, List, ◌++◌, leb, length, take, drop, Err, None, Ok, Option, Result, Some, codes}
 use Rattle.std.proofs.Common.{sym, ◌∙◌}
 use Rattle.typed.specs.declared.Slip.{Slip}
 use Rattle.typed.specs.Reading.{number_of, reading_of, bytes_in, checked_of, spot}
 use Rattle.typed.specs.Places.{place_at}
 use Rattle.typed.specs.Writing.{text_of}
-use Rattle.std.specs.Prelude.{Err, None, Ok, Option, Result, Some}
+use Rattle.std.specs.Fmt.{decimal}
 use Rattle.typed.specs.declared.scan.Offence.{Offence}
 use Rattle.typed.specs.declared.Slipped.{Slipped}
 use Rattle.typed.specs.declared.Place.{Place}
@@ -17,6 +17,10 @@ pub record Numbers (slip : Slip) (r : ℕ) : Type 0 where
 
 abbrev pub slip_at : Slip → Place → Slipped
 slip_at slip place = record { slip = slip; place = place }
+
+-- what a slip prints: its number, its line and its column
+abbrev pub slip_text : Slipped → List ℕ
+slip_text s = codes "slip " ++ decimal (number_of s.slip) ++ codes " " ++ decimal s.place.line ++ codes " " ++ decimal s.place.column
 
 -- a slip is told by the place of its character
 abbrev pub told : List ℕ → Result ℕ Offence → Result ℕ Slipped

@@ -1,6 +1,6 @@
 -- What a text says: its bytes in order, each with the index of its first digit, up to the end of the text or the first slip. A machine goes over the
 -- text from left to right, one character a step; it knows no lines.
-use Rattle.std.specs.Prelude.{ℕ, zero, suc, ◌≡◌, cond, List, [], ◌∷◌, ltb, drop}
+use Rattle.std.specs.Prelude.{ℕ, zero, suc, ◌≡◌, cond, List, [], ◌∷◌, ltb, drop, Err, None, Ok, Option, Result, Some}
 use Rattle.std.proofs.Common.{ap}
 use Rattle.typed.specs.declared.Slip.{Slip}
 use Rattle.typed.specs.declared.Slip.TheVariants.{Stray, Alone, TooMany}
@@ -11,7 +11,6 @@ use Rattle.typed.specs.declared.scan.State.TheVariants.{Between, Comment, Half}
 use Rattle.typed.specs.declared.scan.Step.{Step}
 use Rattle.typed.specs.declared.scan.Step.TheVariants.{To, Whole, Stop}
 use Rattle.typed.specs.Chars.{class_of, byte_of}
-use Rattle.std.specs.Prelude.{Err, None, Ok, Option, Result, Some}
 use Rattle.typed.specs.declared.scan.Byte.{Byte}
 use Rattle.typed.specs.declared.scan.Offence.{Offence}
 use Rattle.typed.specs.declared.scan.Scan.{Scan}

@@ -1,12 +1,11 @@
 -- Digits that stand together: two are a byte, and a run of 2n is n bytes. By induction on n.
-use Rattle.std.specs.Prelude.{ℕ, zero, suc, ◌+◌, ◌≤◌, ◌<◌, ◌≡◌, refl, true, List, [], ◌∷◌, length}
+use Rattle.std.specs.Prelude.{ℕ, zero, suc, ◌+◌, ◌≤◌, ◌<◌, ◌≡◌, refl, true, List, [], ◌∷◌, length, Ok}
 use Rattle.std.proofs.Common.{ap, ◌∙◌, arith, lt-ltb}
 use Rattle.typed.specs.declared.chars.Class.TheVariants.{Digit}
 use Rattle.typed.specs.declared.scan.State.TheVariants.{Between}
 use Rattle.typed.specs.Chars.{class_digit, is_digit, class_of, byte_of}
 use Rattle.typed.specs.Reading.{byte, act, reading, bytes_in, checked}
 use Rattle.typed.specs.Promises.{told, typed_of, bytes_of}
-use Rattle.std.specs.Prelude.{Ok}
 
 abbrev pub Digits : List ℕ → Type 0
 Digits [] = Unit

@@ -1,12 +1,11 @@
 -- What is put reads back. A text says some bytes if, whatever follows it, a reader finds first these bytes and then what follows. Texts one behind the
 -- other say the bytes one behind the other, and a text that says some bytes is typed again to them. That the text of `put_bytes` says its bytes, whatever
 -- the comments are, is proved in proofs/Says.antt.
-use Rattle.std.specs.Prelude.{ℕ, suc, ◌+◌, ◌≤◌, ◌<◌, ◌≡◌, refl, List, [], ◌∷◌, ◌++◌, length, get_or}
+use Rattle.std.specs.Prelude.{ℕ, suc, ◌+◌, ◌≤◌, ◌<◌, ◌≡◌, refl, List, [], ◌∷◌, ◌++◌, length, get_or, Ok, Result}
 use Rattle.std.proofs.Common.{add-zero, ap, ◌∙◌, append_assoc, append-nil, arith, length-append, lt-ltb}
 use Rattle.typed.specs.declared.scan.State.TheVariants.{Between}
 use Rattle.typed.specs.Reading.{Reading, end, byte, reading, reading_of, bytes_in, checked, checked_of}
 use Rattle.typed.specs.Promises.{told, left, bytes_of, infront, Reads}
-use Rattle.std.specs.Prelude.{Ok, Result}
 use Rattle.typed.specs.declared.Slipped.{Slipped}
 
 -- in front of a reading stand some bytes

@@ -1,14 +1,12 @@
 -- Where a reading's bytes stand: at each byte's index are its two digits, which give its value, and every slip's index is in the text. That every reading
 -- is so is proved in proofs/Spots.antt; here, that every byte has a spot, and how many bytes an accepted text has. By induction on what is still to be read.
-use Rattle.std.specs.Prelude.{ℕ, zero, suc, ◌+◌, ◌≤◌, ◌<◌, ◌≡◌, refl, Bool, true, false, cond, List, [], ◌∷◌, ltb, length, get_or, drop}
+use Rattle.std.specs.Prelude.{ℕ, zero, suc, ◌+◌, ◌≤◌, ◌<◌, ◌≡◌, refl, Bool, true, false, cond, List, [], ◌∷◌, ltb, length, get_or, drop, Err, Ok, Some}
 use Rattle.std.proofs.Common.{arith, ltb-true}
 use Rattle.typed.specs.declared.Slip.TheVariants.{TooMany}
 use Rattle.typed.specs.declared.scan.State.{State}
 use Rattle.typed.specs.declared.scan.State.TheVariants.{Between, Comment, Half}
 use Rattle.typed.specs.Chars.{is_digit, byte_of}
-use Rattle.typed.specs.Reading.{Reading, end, slips, byte, reading_of, bytes_in, checked, checked_of, spot}
-use Rattle.std.specs.Prelude.{Err, Ok, Some}
-use Rattle.typed.specs.Reading.{offence}
+use Rattle.typed.specs.Reading.{Reading, end, slips, byte, reading_of, bytes_in, checked, checked_of, spot, offence}
 
 -- the head of what is left of a list
 pub peel : (text : List ℕ) (at c : ℕ) (cs : List ℕ) → drop at text ≡ c ∷ cs → (at < length text) × (get_or text at 0 ≡ c) × (drop (suc at) text ≡ cs)

@@ -1,21 +1,18 @@
 -- What the contracts of `read` and `place_of` promise, said of the answers alone: a buffer that stays on a slip, and the bytes in front of it on none. That
 -- each slip is told exactly when it is the first offence, and a byte where it stands, is proved in proofs/Told.antt.
-use Rattle.std.specs.Prelude.{ℕ, ◌≤◌, ◌<◌, ◌≡◌, true, List, length, get_or}
+use Rattle.std.specs.Prelude.{ℕ, ◌≤◌, ◌<◌, ◌≡◌, true, List, length, get_or, Err, Ok, Option, Result, Some}
 use Rattle.std.proofs.Common.{sym, ap, ◌∙◌, arith}
 use Rattle.typed.specs.declared.Slip.{Slip}
 use Rattle.typed.specs.declared.Place.{Place}
-use Rattle.typed.specs.Reading.{checked_of}
+use Rattle.typed.specs.Reading.{checked_of, offence}
 use Rattle.typed.specs.Places.{place_at}
 use Rattle.typed.specs.Offences.{begins, begun, First}
 use Rattle.typed.specs.Spots.{Pair, count_is}
 use Rattle.typed.specs.Editor.{shown_at}
 use Rattle.typed.specs.PlaceLaws.{char_at}
-use Rattle.typed.specs.Promises.{told, left, bytes_of, infront, Reads}
-use Rattle.std.specs.Prelude.{Err, Ok, Option, Result, Some}
+use Rattle.typed.specs.Promises.{told, left, bytes_of, infront, Reads, slip_at}
 use Rattle.typed.specs.declared.scan.Offence.{Offence}
 use Rattle.typed.specs.declared.Slipped.{Slipped}
-use Rattle.typed.specs.Reading.{offence}
-use Rattle.typed.specs.Promises.{slip_at}
 
 -- the first offence, and where it stands
 pub record FirstAt (text : List ℕ) (room : ℕ) (slip : Slip) (place : Place) : Type 0 where

@@ -38,6 +38,7 @@ fn value_of(c: u8) -> u8
 }
 
 // The byte of two digits.
+#[tactic(auto, unfolding(crate::specs::Chars::byte_of))]
 pub fn byte_of(high: u8, low: u8) -> u8
     ensures { result ≡ byte_of high low }
 {

@@ -21,7 +21,8 @@ mod columns;
 mod scan;
 mod text;
 
-ghost use Rattle.typed.specs.Promises.{Reads, Locates, Numbers};
+ghost use Rattle.std.specs.Prelude.{Some};
+ghost use Rattle.typed.specs.Promises.{Reads, Locates, Numbers, slip_text};
 
 use columns::place_at;
 use scan::{check, fill, find};
@@ -65,6 +66,8 @@ pub struct Slipped {
 
 // The number of the slip, the line and the column: `slip 2 1 4`.
 impl fmt::Display for Slipped {
+    ghost output = { λ slipped. Some (slip_text slipped) };
+
     fn fmt<W: fmt::Write>(&self, f: &mut fmt::Formatter<W>) -> fmt::Result {
         let number = u32::from(self.slip);
         write!(f, "slip {number} {} {}", self.place.line, self.place.column)

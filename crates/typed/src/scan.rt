@@ -41,54 +41,30 @@ pub struct Offence {
     pub at: usize,
 }
 
-fn from_between(class: Class, at: usize, c: u8) -> Step
-    ensures { result ≡ meets Between at c class }
-{
-    match class {
-        Class::Digit => Step::To(State::Half(c, at)),
-        Class::Blank | Class::NewLine => Step::To(State::Between),
-        Class::Hash => Step::To(State::Comment),
-        Class::Other => Step::Stop(Slip::Stray, at),
-    }
-}
-
-fn from_comment(class: Class) -> Step
-    ensures { (at c : ℕ) → result ≡ meets Comment at c class }
-{
-    match class {
-        Class::NewLine => Step::To(State::Between),
-        Class::Digit | Class::Blank | Class::Hash | Class::Other => Step::To(State::Comment),
-    }
-}
-
-// A digit stands alone where the text is separated after it. Where a character stands that may not stand anywhere, the
-// digit may well be right, and that character is told.
-fn from_half(class: Class, high: u8, first: usize, here: usize, c: u8) -> Step
-    ensures { result ≡ meets (Half high first) here c class }
-{
-    match class {
-        Class::Digit => Step::Whole(byte_of(high, c), first),
-        Class::Blank | Class::NewLine | Class::Hash => Step::Stop(Slip::Alone, first),
-        Class::Other => Step::Stop(Slip::Stray, here),
-    }
-}
-
-// What the character at an index leads to, from a state.
+// What the character at an index leads to, from a state. A digit stands alone where the text is separated after it. Where a
+// character stands that may not stand anywhere, the digit may well be right, and that character is told.
+#[tactic(auto, unfolding(crate::specs::Reading::act))]
 fn step_of(state: State, at: usize, c: u8) -> Step
     ensures { result ≡ act state at c }
 {
-    let class = class_of(c);
-    match state {
-        State::Between => from_between(class, at, c),
-        State::Comment => from_comment(class),
-        State::Half(high, first) => from_half(class, high, first, at, c),
+    match (state, class_of(c)) {
+        (State::Half(high, first), Class::Digit) => Step::Whole(byte_of(high, c), first),
+        (State::Half(_, first), Class::Blank | Class::NewLine | Class::Hash) => Step::Stop(
+            Slip::Alone,
+            first,
+        ),
+        (State::Between, Class::Blank | Class::NewLine) | (State::Comment, Class::NewLine) =>
+            Step::To(State::Between),
+        (State::Between, Class::Hash) | (State::Comment, _) => Step::To(State::Comment),
+        (State::Between, Class::Digit) => Step::To(State::Half(c, at)),
+        (_, Class::Other) => Step::Stop(Slip::Stray, at),
     }
 }
 
 // A text of which the characters before an index have been read. It gives the bytes in order, and then the first slip, if
 // there is one, and nothing behind it.
 #[derive(Drop)]
-pub struct Scan<'a> {
+struct Scan<'a> {
     text: &'a [u8],
     at: usize,
     state: State,
@@ -114,8 +90,8 @@ impl<'a> Iterator for Scan<'a> {
     ghost remaining = { item_count items_left };
 
     fn next(&mut self) -> Option<Result<Byte, Offence>> {
-        while self.at < self.text.len() {
-            let step = step_of(self.state, self.at, self.text[self.at]);
+        while let Some(c) = self.text.get(self.at) {
+            let step = step_of(self.state, self.at, *c);
             self.at += 1;
             match step {
                 Step::To(state) => self.state = state,

@@ -5,6 +5,4 @@ use Rattle.typed.proofs.Scanning.{counted}
 use Rattle.typed.proofs.scan.check.Given as goal
 
 abbrev pub invariant-loop-item : goal.invariant-loop-item
-invariant-loop-item l =
-    goal.iterator-loop-item.can_next l.item-iterator × goal.iterator-loop-item.is_finite l.item-iterator
-    × (counted l.room l.count (items_left l.item-iterator) ≡ checked_of l.text l.room)
+invariant-loop-item l = counted l.room l.count (items_left l.item-iterator) ≡ checked_of l.text l.room

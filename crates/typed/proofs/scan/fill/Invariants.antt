@@ -8,5 +8,5 @@ use Rattle.typed.proofs.scan.fill.Given as goal
 
 abbrev pub invariant-loop-i : goal.invariant-loop-i
 invariant-loop-i l =
-    goal.iterator-loop-i.can_next l.i-iterator × goal.iterator-loop-i.is_finite l.i-iterator × (l.i-iterator.a.end ≡ length l.out)
+    (l.i-iterator.a.end ≡ length l.out)
     × (sets l.out l.i-iterator.a.start (values (items_left l.i-iterator.b)) ≡ sets l.initial.out 0 (bytes_in (reading_of l.text)))

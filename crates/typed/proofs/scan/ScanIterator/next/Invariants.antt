@@ -5,8 +5,8 @@ use lib.ListN.{length}
 use Rattle.typed.specs.Reading.{items_left}
 use Rattle.typed.proofs.scan.ScanIterator.next.Given as goal
 
-abbrev pub invariant-loop-self : goal.invariant-loop-self
-invariant-loop-self l = items_left l.self ≡ items_left l.initial.self
+abbrev pub invariant-loop-c : goal.invariant-loop-c
+invariant-loop-c l = items_left l.self ≡ items_left l.initial.self
 
-abbrev pub decreases-loop-self : goal.decreases-loop-self
-decreases-loop-self l = length l.self.text.now - l.self.at
+abbrev pub decreases-loop-c : goal.decreases-loop-c
+decreases-loop-c l = length l.self.text.now - l.self.at
