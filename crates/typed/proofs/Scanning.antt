@@ -17,7 +17,6 @@ use Rattle.std.specs.declared.ops.Range.{Range}
 use Rattle.std.specs.Iterator.{YieldsFirst, YieldsThen}
 use Rattle.std.proofs.lemmas.Iterator.Consumers.{nth_from_yields_List, YieldsList-from_first}
 use Rattle.typed.specs.declared.scan.Scan.{Scan}
-use Rattle.typed.specs.declared.Slip.{Slip}
 use Rattle.typed.specs.declared.Slip.TheVariants.{Alone, TooMany}
 use Rattle.typed.specs.declared.scan.State.{State}
 use Rattle.typed.specs.declared.scan.State.TheVariants.{Between, Comment, Half}
@@ -57,10 +56,10 @@ module _ {text : List ℕ} {s : State} {i : ℕ} {d : Step} {all : Items} (left 
   pub goes : {t : State} → Met text s i d → d ≡ To t → Left text t (i + 1) ≡ all
   goes m e = rw e at (turn m)
 
-  pub gives : {v first : ℕ} → Met text s i d → d ≡ Whole v first → all ≡ Ok (record { value = v; first = first }) ∷ Left text Between (i + 1)
+  pub gives : {b : Byte} → Met text s i d → d ≡ Whole b → all ≡ Ok b ∷ Left text Between (i + 1)
   gives m e = sym (rw e at (turn m))
 
-  pub stops : {slip : Slip} {at : ℕ} → Met text s i d → d ≡ Stop slip at → all ≡ Err (offence slip at) ∷ Left text Between (length text)
+  pub stops : {o : Offence} → Met text s i d → d ≡ Stop o → all ≡ Err o ∷ Left text Between (length text)
   stops m e = rw (nothing_left text (length text) (omega arith)) (sym (rw e at (turn m)))
 
 module _ (text : List ℕ) (s : State) (i : ℕ) {all : Items} (left : Left text s i ≡ all) (h : length text ≤ i) where
@@ -68,8 +67,8 @@ module _ (text : List ℕ) (s : State) (i : ℕ) {all : Items} (left : Left text
   unfolding reading
   last = rw (drop_of_length-le text h) at left
 
-  pub cut_off : {high at : ℕ} → s ≡ Half high at → all ≡ Err (offence Alone at) ∷ Left text Between i
-  cut_off e = rw (nothing_left text i h) (sym (rw e at last))
+  pub cut_off : {high at : ℕ} {o : Offence} → s ≡ Half high at → o ≡ offence Alone at → all ≡ Err o ∷ Left text Between i
+  cut_off e f = rw (f, nothing_left text i h) (sym (rw e at last))
 
   pub over : ((high at : ℕ) → s ≡ Half high at → ⊥) → (all ≡ []) × (Left text s i ≡ [])
   over n = let e = go s n in (sym last ∙ e, left ∙ sym last ∙ e)

@@ -74,8 +74,8 @@ module _ (text : List ℕ) where
   -- what the next state then remembers; a byte that is whole began where it says, with n before it
   abbrev pub Next : ℕ → ℕ → Step → Type 0
   Next at n (To t) = Agrees t (suc at) n
-  Next at n (Whole v first) = (begins text first ≡ true) × (begun text first ≡ n) × Agrees Between (suc at) (suc n)
-  Next at n (Stop slip first) = Unit
+  Next at n (Whole b) = (begins text b.first ≡ true) × (begun text b.first ≡ n) × Agrees Between (suc at) (suc n)
+  Next at n (Stop o) = Unit
 
   -- what separates bytes begins none
   pub plain : (at : ℕ) (k : Class) → separates k ≡ true → class_at text at ≡ k → begins text at ≡ false
@@ -126,8 +126,8 @@ module _ (text : List ℕ) where
     where
       go : (d : Step) → Next at n d → ((t : State) (m : ℕ) → Agrees t (suc at) m → Begun m (reading t (suc at) cs)) → Begun n (go_on d (λ t. reading t (suc at) cs))
       go (To t) a more = more t n a
-      go (Whole v first) a more = (a.0, a.1, more Between (suc n) a.2)
-      go (Stop slip first) a more = tt
+      go (Whole b) a more = (a.0, a.1, more Between (suc n) a.2)
+      go (Stop o) a more = tt
 
   begun-spot : (i n : ℕ) (r : Reading) → Begun n r → (at : ℕ) → spot i r ≡ Some at → (begins text at ≡ true) × (begun text at ≡ n + i)
   begun-spot i n end b at e = absurd (let z : ◌≡◌ {A = ℕ} 0 1 = cc in omega arith)

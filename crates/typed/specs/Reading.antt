@@ -21,6 +21,10 @@ number_of Stray = 1
 number_of Alone = 2
 number_of TooMany = 3
 
+-- a slip, and the index at which it is told
+abbrev pub offence : Slip → ℕ → Offence
+offence slip at = record { slip = slip; at = at }
+
 -- what the character c at index `at` leads to: a comment goes from `#` to the end of the line, and a byte's two digits stand together. After a first
 -- digit, whatever separates bytes shows that the digit is alone, and what may stand nowhere is told itself
 abbrev pub meets : State → ℕ → ℕ → Class → Step
@@ -28,17 +32,17 @@ meets Between at c Digit = To (Half c at)
 meets Between at c Blank = To Between
 meets Between at c NewLine = To Between
 meets Between at c Hash = To Comment
-meets Between at c Other = Stop Stray at
+meets Between at c Other = Stop (offence Stray at)
 meets Comment at c Digit = To Comment
 meets Comment at c Blank = To Comment
 meets Comment at c NewLine = To Between
 meets Comment at c Hash = To Comment
 meets Comment at c Other = To Comment
-meets (Half high first) at c Digit = Whole (byte_of high c) first
-meets (Half high first) at c Blank = Stop Alone first
-meets (Half high first) at c NewLine = Stop Alone first
-meets (Half high first) at c Hash = Stop Alone first
-meets (Half high first) at c Other = Stop Stray at
+meets (Half high first) at c Digit = Whole (record { value = byte_of high c; first = first })
+meets (Half high first) at c Blank = Stop (offence Alone first)
+meets (Half high first) at c NewLine = Stop (offence Alone first)
+meets (Half high first) at c Hash = Stop (offence Alone first)
+meets (Half high first) at c Other = Stop (offence Stray at)
 
 unfoldable pub act : State → ℕ → ℕ → Step
 act s at c = meets s at c (class_of c)
@@ -56,8 +60,8 @@ at_end (Half high first) = slips Alone first
 
 abbrev pub go_on : Step → (State → Reading) → Reading
 go_on (To s) rest = rest s
-go_on (Whole v first) rest = byte v first (rest Between)
-go_on (Stop slip at) rest = slips slip at
+go_on (Whole b) rest = byte b.value b.first (rest Between)
+go_on (Stop o) rest = slips o.slip o.at
 
 -- what is read from index `at` on, in a state
 unfoldable pub reading : State → ℕ → List ℕ → Reading
@@ -71,9 +75,6 @@ abbrev pub bytes_in : Reading → List ℕ
 bytes_in end = []
 bytes_in (slips slip at) = []
 bytes_in (byte v first r) = v ∷ bytes_in r
-
-abbrev pub offence : Slip → ℕ → Offence
-offence slip at = record { slip = slip; at = at }
 
 pub offence_parts : {k m : Slip} {i j : ℕ} → ◌≡◌ {A = Result ℕ Offence} (Err (offence k i)) (Err (offence m j)) → (k ≡ m) × (i ≡ j)
 offence_parts {k} {m} {i} {j} e = let z : offence k i ≡ offence m j = cc in (ap (λ o. o.slip) z, ap (λ o. o.at) z)

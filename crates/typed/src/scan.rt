@@ -2,11 +2,10 @@
 // them.
 //
 // Nothing here knows lines: a slip and a byte are found by the index of their character.
-ghost use Rattle.std.specs.Prelude.{◌≡◌, ℕ};
+ghost use Rattle.std.specs.Prelude.{◌≡◌};
 ghost use Rattle.std.specs.Iterator.{YieldsFirst, item_count};
 ghost use Rattle.std.proofs.lemmas.List.Edits.{sets};
-ghost use Rattle.typed.specs.declared.scan.State.TheVariants.{Between, Comment, Half};
-ghost use Rattle.typed.specs.Reading.{meets, act, checked_of, reading_of, items_in, items_left, spot, bytes_in};
+ghost use Rattle.typed.specs.Reading.{act, offence, checked_of, reading_of, items_in, items_left, spot, bytes_in};
 
 use super::Slip;
 use super::chars::{Class, byte_of, class_of};
@@ -17,14 +16,6 @@ pub enum State {
     Between,
     Comment,
     Half(u8, usize),
-}
-
-// What a character leads to: another state; a byte that is whole, with the index of its first digit; or a slip.
-#[derive(Clone, Copy, Debug, PartialEq, Eq)]
-pub enum Step {
-    To(State),
-    Whole(u8, usize),
-    Stop(Slip, usize),
 }
 
 // A byte, and the index of its first digit.
@@ -41,6 +32,22 @@ pub struct Offence {
     pub at: usize,
 }
 
+impl Slip {
+    fn at(self, at: usize) -> Offence
+        ensures { result ≡ offence self at }
+    {
+        Offence { slip: self, at }
+    }
+}
+
+// What a character leads to: another state; a byte that is whole; or a slip.
+#[derive(Clone, Copy, Debug, PartialEq, Eq)]
+pub enum Step {
+    To(State),
+    Whole(Byte),
+    Stop(Offence),
+}
+
 // What the character at an index leads to, from a state. A digit stands alone where the text is separated after it. Where a
 // character stands that may not stand anywhere, the digit may well be right, and that character is told.
 #[tactic(auto, unfolding(crate::specs::Reading::act))]
@@ -48,16 +55,18 @@ fn step_of(state: State, at: usize, c: u8) -> Step
     ensures { result ≡ act state at c }
 {
     match (state, class_of(c)) {
-        (State::Half(high, first), Class::Digit) => Step::Whole(byte_of(high, c), first),
-        (State::Half(_, first), Class::Blank | Class::NewLine | Class::Hash) => Step::Stop(
-            Slip::Alone,
-            first,
-        ),
+        (State::Between, Class::Digit) => Step::To(State::Half(c, at)),
         (State::Between, Class::Blank | Class::NewLine) | (State::Comment, Class::NewLine) =>
             Step::To(State::Between),
         (State::Between, Class::Hash) | (State::Comment, _) => Step::To(State::Comment),
-        (State::Between, Class::Digit) => Step::To(State::Half(c, at)),
-        (_, Class::Other) => Step::Stop(Slip::Stray, at),
+        (State::Half(high, first), Class::Digit) => Step::Whole(Byte {
+            value: byte_of(high, c),
+            first,
+        }),
+        (State::Half(_, first), Class::Blank | Class::NewLine | Class::Hash) => Step::Stop(
+            Slip::Alone.at(first),
+        ),
+        (_, Class::Other) => Step::Stop(Slip::Stray.at(at)),
     }
 }
 
@@ -95,14 +104,14 @@ impl<'a> Iterator for Scan<'a> {
             self.at += 1;
             match step {
                 Step::To(state) => self.state = state,
-                Step::Whole(value, first) => {
+                Step::Whole(byte) => {
                     self.state = State::Between;
-                    return Some(Ok(Byte { value, first }));
+                    return Some(Ok(byte));
                 }
-                Step::Stop(slip, at) => {
+                Step::Stop(offence) => {
                     self.at = self.text.len();
                     self.state = State::Between;
-                    return Some(Err(Offence { slip, at }));
+                    return Some(Err(offence));
                 }
             }
         }
@@ -110,10 +119,7 @@ impl<'a> Iterator for Scan<'a> {
             return None;
         };
         self.state = State::Between;
-        Some(Err(Offence {
-            slip: Slip::Alone,
-            at,
-        }))
+        Some(Err(Slip::Alone.at(at)))
     }
 }
 
@@ -126,17 +132,14 @@ pub fn check(text: &[u8], room: usize) -> Result<usize, Offence>
     for item in Scan::new(text) {
         let byte = item?;
         if count >= room {
-            return Err(Offence {
-                slip: Slip::TooMany,
-                at: byte.first,
-            });
+            return Err(Slip::TooMany.at(byte.first));
         }
         count += 1;
     }
     Ok(count)
 }
 
-// The index of the first digit of a byte, by the byte's number.
+// The index of the first digit of a byte, by the byte's number, if the text has that many.
 pub fn find(text: &[u8], which: usize) -> Option<usize>
     ensures { result ≡ spot which (reading_of text.now) }
 {

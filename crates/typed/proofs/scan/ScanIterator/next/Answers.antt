@@ -24,6 +24,6 @@ returns-in_default-state c =
 
 pub returns : goal.returns
 returns c =
-    let steps = cut_off _ _ _ c.loop-c.invariant c.in_default.ensures.lookup.3 c.in-Half.is in
+    let steps = cut_off _ _ _ c.loop-c.invariant c.in_default.ensures.lookup.3 c.in-Half.is c.at.ensures in
     let less = shorter steps in
     record { steps = steps; goes = search rules }
