@@ -74,7 +74,7 @@ pub length-remark : (cs : List ℕ) → length (remark cs) ≡ 3 + length cs
 unfolding remark
 length-remark cs = let r = length-lined cs in omega arith
 
-length_comment : (n : ℕ) (cs : List ℕ) → length (comment_of n cs) ≡ comment_size n (length cs)
+pub length_comment : (n : ℕ) (cs : List ℕ) → length (comment_of n cs) ≡ comment_size n (length cs)
 length_comment n [] = refl
 length_comment n (c ∷ cs) = simp (length-append, length-spaces, length-remark) (omega arith)
 

@@ -147,7 +147,8 @@ pub fn find(text: &[u8], which: usize) -> Option<usize>
     Some(byte.first)
 }
 
-// Puts the bytes that stand before the first slip, as many as there is room for.
+// Puts the bytes that stand before the first slip, as many as there is room for. By index: after a zip with `iter_mut` a
+// proof knows how long `out` is, and nothing of what is in it.
 #[tactic(auto, using(crate::proofs::Scanning::values_are))]
 pub fn fill(text: &[u8], out: &mut [u8])
     ensures { out.new ≡ sets out.old 0 (bytes_in (reading_of text.now)) }

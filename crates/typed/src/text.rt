@@ -21,13 +21,14 @@ fn after_byte(n: usize, k: usize, last: u8) -> u8
     }
 }
 
-// Puts the bytes, three characters each.
-fn put_pairs(out: &mut [u8], start: usize, bytes: &[u8], last: u8)
-    requires { start + 3 * length bytes.now ≤ length out.old }
-    ensures { out.new ≡ sets out.old start (paired (length bytes.now) last 0 bytes.now) }
+// Puts the bytes, three characters each. By index: after `chunks_exact_mut` a proof knows how long `out` is, and nothing of
+// what is in it.
+fn put_pairs(out: &mut [u8], bytes: &[u8], last: u8)
+    requires { 3 * length bytes.now ≤ length out.old }
+    ensures { out.new ≡ sets out.old 0 (paired (length bytes.now) last 0 bytes.now) }
 {
     for (i, byte) in bytes.iter().enumerate() {
-        let at = start + 3 * i;
+        let at = 3 * i;
         out[at] = digit_of(byte / 16);
         out[at + 1] = digit_of(byte % 16);
         out[at + 2] = after_byte(bytes.len(), i + 1, last);
@@ -56,30 +57,30 @@ fn one_line(c: u8) -> u8
 }
 
 // Puts `# `, the comment and the end of its line.
-fn put_remark(out: &mut [u8], start: usize, comment: &[u8])
-    requires { start + 3 + length comment.now ≤ length out.old }
-    ensures { out.new ≡ sets out.old start (remark comment.now) }
+fn put_remark(out: &mut [u8], comment: &[u8])
+    requires { 3 + length comment.now ≤ length out.old }
+    ensures { out.new ≡ sets out.old 0 (remark comment.now) }
 {
-    out[start] = b'#';
-    out[start + 1] = b' ';
+    out[0] = b'#';
+    out[1] = b' ';
     for (i, c) in comment.iter().enumerate() {
-        out[start + 2 + i] = one_line(*c);
+        out[2 + i] = one_line(*c);
     }
-    out[start + 2 + comment.len()] = b'\n';
+    out[2 + comment.len()] = b'\n';
 }
 
-// Puts the comment that stands behind `n` bytes, if there is one, and answers the index after it.
-fn put_comment(out: &mut [u8], at: usize, n: usize, comment: &[u8]) -> usize
-    requires { at + comment_size n (length comment.now) ≤ length out.old }
-    ensures { (result ≡ at + comment_size n (length comment.now)) × (out.new ≡ sets out.old at (comment_of n comment.now)) }
+// Puts the comment that stands behind `n` bytes, if there is one, and answers how long it is.
+fn put_comment(out: &mut [u8], n: usize, comment: &[u8]) -> usize
+    requires { comment_size n (length comment.now) ≤ length out.old }
+    ensures { (result ≡ comment_size n (length comment.now)) × (out.new ≡ sets out.old 0 (comment_of n comment.now)) }
 {
     if comment.is_empty() {
-        return at;
+        return 0;
     }
-    let begin = at + gap_of(n);
-    out[at..begin].fill(b' ');
-    put_remark(out, begin, comment);
-    begin + 3 + comment.len()
+    let gap = gap_of(n);
+    out[..gap].fill(b' ');
+    put_remark(&mut out[gap..], comment);
+    gap + 3 + comment.len()
 }
 
 // Whether the text of `n` bytes and a comment of `m` characters has room. The sizes are taken off one by one: their sum
@@ -116,6 +117,7 @@ pub fn put_bytes(out: &mut [u8], at: usize, bytes: &[u8], comment: &[u8]) -> Opt
     if !has_room(room, n, m) {
         return None;
     }
-    put_pairs(out, at, bytes, last_of(m));
-    Some(put_comment(out, at + 3 * n, n, comment))
+    put_pairs(&mut out[at..], bytes, last_of(m));
+    let end = at + 3 * n;
+    Some(end + put_comment(&mut out[end..], n, comment))
 }

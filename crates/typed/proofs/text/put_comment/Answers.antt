@@ -4,4 +4,4 @@ use Rattle.typed.proofs.Answers.{commented}
 use Rattle.typed.proofs.text.put_comment.Goals as goal
 
 pub returns : goal.returns
-returns c = commented _ _ _ _ _ _ _ (search rules) c.gap_of.ensures.0 c.requires (c.fill.ensures.after (λ y e. e)) c.put_remark.ensures
+returns c = commented _ _ _ _ _ _ (search rules) c.gap_of-gap.ensures.0 c.requires (c.fill.ensures.after (λ y e. e)) c.put_remark.ensures

@@ -7,4 +7,4 @@ use Rattle.typed.specs.Writing.{lined}
 use Rattle.typed.proofs.text.put_remark.Given as goal
 
 abbrev pub invariant-loop-i : goal.invariant-loop-i
-invariant-loop-i l = sets l.out (l.start + 2 + l.i) (lined (drop l.i l.comment)) ≡ sets l.initial.out (l.start + 2) (lined l.comment)
+invariant-loop-i l = sets l.out (2 + l.i) (lined (drop l.i l.comment)) ≡ sets l.initial.out 2 (lined l.comment)
