@@ -76,6 +76,7 @@ bytes_in end = []
 bytes_in (slips slip at) = []
 bytes_in (byte v first r) = v ∷ bytes_in r
 
+-- where two are one, so are their parts
 pub offence_parts : {k m : Slip} {i j : ℕ} → ◌≡◌ {A = Result ℕ Offence} (Err (offence k i)) (Err (offence m j)) → (k ≡ m) × (i ≡ j)
 offence_parts {k} {m} {i} {j} e = let z : offence k i ≡ offence m j = cc in (ap (λ o. o.slip) z, ap (λ o. o.at) z)
 
@@ -95,7 +96,7 @@ spot n (slips slip at) = None
 spot zero (byte v first r) = Some first
 spot (suc n) (byte v first r) = spot n r
 
--- the same one by one: the bytes, and behind them the first slip
+-- a reading one by one: the bytes, and behind them the first slip
 abbrev pub items_in : Reading → List (Result Byte Offence)
 items_in end = []
 items_in (slips slip at) = Err (offence slip at) ∷ []
