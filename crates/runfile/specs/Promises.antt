@@ -21,7 +21,7 @@ use Rattle.runfile.specs.Refusals.{number_of, bad_byte, refusal_of, file_refusal
 pub record Decides (f : List ℕ) (room : Room) (r : Result Header Refused) : Type 0 where
   pub result : r ≡ refusal_of f room
 
--- `refusal_number(why)` (R41 to R56)
+-- `u32::from(why)`: the number of a refusal (R41 to R56)
 pub record Numbers (why : Refusal) (r : ℕ) : Type 0 where
   pub result : r ≡ number_of why
 
@@ -63,7 +63,7 @@ FourBytes f at r = r ≡ u32_at f at
 abbrev pub StartWord : (h : Header) (f : List ℕ) (i r : ℕ) → Type 0
 StartWord h f i r = r ≡ word_in h.version f i
 
--- `stride_of(header)`, `rows_start(header)`, `schedule_start(header)`
+-- `header.stride()`, `header.rows_start()`, `header.schedule_start()`
 abbrev pub Stride : (h : Header) (r : ℕ) → Type 0
 Stride h r = (r ≡ stride_of h) × RowSize r
 
@@ -80,7 +80,7 @@ header_or_zeros f = cond (ltb (length f) least_head) (record { version = 0; proc
 abbrev pub HeaderOrZeros : (f : List ℕ) (r : Header) → Type 0
 HeaderOrZeros f r = r ≡ header_or_zeros f
 
--- `index8(x)`, `index16(x)`
+-- `usize::from(x)` of a byte and of a number of two bytes: nothing is lost, and the bound goes with it
 abbrev pub Index8 : (x r : ℕ) → Type 0
 Index8 x r = (r ≡ x) × (r < 256)
 

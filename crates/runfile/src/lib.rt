@@ -20,9 +20,7 @@ ghost use Rattle.runfile.specs.Promises.{Decides, DecidesFile, Numbers};
 pub use kinds::kind_of;
 pub use operations::{Operations, firsts_of};
 use read::{has_mark, header_of};
-pub use read::{
-    header_or_zeros, index8, index16, rows_start, schedule_start, stride_of, u32_at, word_at,
-};
+pub use read::{header_or_zeros, u32_at, word_at};
 use rows::Rows;
 use schedule::{first_bad_byte, first_idle};
 pub use schedule::{is_bad_byte, is_idle};
@@ -140,12 +138,6 @@ impl From<Refusal> for u32 {
             Refusal::AnswersRoom => 15,
         }
     }
-}
-
-pub fn refusal_number(why: Refusal) -> u32
-    ensures { Numbers why result }
-{
-    u32::from(why)
 }
 
 // A refusal as it is printed: its number and its place (R195).

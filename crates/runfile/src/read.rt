@@ -2,22 +2,10 @@
 ghost use Rattle.std.specs.Prelude.{◌≡◌, ◌+◌, ◌*◌, ◌≤◌, ◌<◌, length, take, drop};
 ghost use Rattle.runfile.specs.Format.{least_head, number_size, RowSize};
 ghost use Rattle.runfile.specs.Layout.{u16_at, u64_at, widened, number_at, marked, header_in, word_place, length_given};
-ghost use Rattle.runfile.specs.Promises.{Index8, Index16, FourBytes, HeaderOrZeros, StartWord, Stride, RowsStart, ScheduleStart};
+ghost use Rattle.runfile.specs.Promises.{FourBytes, HeaderOrZeros, StartWord, Stride, RowsStart, ScheduleStart};
 
 use super::Header;
 use super::format::{head_size, row_size, word_size};
-
-pub fn index8(x: u8) -> usize
-    ensures { Index8 x result }
-{
-    usize::from(x)
-}
-
-pub fn index16(x: u16) -> usize
-    ensures { Index16 x result }
-{
-    usize::from(x)
-}
 
 // N bytes from a place on.
 fn bytes_at<const N: usize>(file: &[u8], at: usize) -> [u8; N]
@@ -145,22 +133,4 @@ impl Header {
     {
         self.schedule_start() + usize::from(self.steps)
     }
-}
-
-pub fn stride_of(header: Header) -> usize
-    ensures { Stride header result }
-{
-    header.stride()
-}
-
-pub fn rows_start(header: Header) -> usize
-    ensures { RowsStart header result }
-{
-    header.rows_start()
-}
-
-pub fn schedule_start(header: Header) -> usize
-    ensures { ScheduleStart header result }
-{
-    header.schedule_start()
 }
