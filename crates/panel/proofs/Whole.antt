@@ -11,7 +11,6 @@ use Rattle.runfile.specs.Layout.{rows_start}
 use Rattle.runfile.specs.Promises.{RowsLent}
 use Rattle.runfile.specs.Operations.{table_of}
 use Rattle.runfile.specs.Lawful.{LawfulFile, LawfulByte, lawful_byte}
-use Rattle.machine.specs.declared.Process.{Process}
 use Rattle.engine.specs.declared.Standing.{Standing}
 use Rattle.engine.specs.declared.Part.{Part}
 use Rattle.machine.specs.Records.{nobody}
