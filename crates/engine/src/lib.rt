@@ -30,7 +30,8 @@ pub struct Part {
     pub from: Standing,
 }
 
-// Runs the bytes of `schedule`. In each way through the loop only what that way changes of the named record is stored.
+// Runs the bytes of `schedule`. Each way through the loop reads and stores only what it needs of the named record, and so
+// moves no more. The three buffers are lent one by one, as slices (R302).
 pub fn run_bytes(
     operations: Operations,
     schedule: &[u8],
@@ -59,15 +60,15 @@ pub fn run_bytes(
         let position = (from.position + i) as u16;
         let me = byte % 16;
         let at = usize::from(me);
-        let process = processes[at];
         // The action (R72, R301).
         match byte / 16 {
             // A step (R100).
-            0 => match process.status {
+            0 => match processes[at].status {
                 // Nothing (R140).
                 Status::Down => {}
                 // N1 (R101), where rows are left (R141).
                 Status::Idle => {
+                    let process = processes[at];
                     if process.begun < counts[at] {
                         processes[at] = Process {
                             status: Status::N2,
@@ -78,6 +79,7 @@ pub fn run_bytes(
                 }
                 // N2 (R102).
                 Status::N2 => {
+                    let process = processes[at];
                     processes[at] = Process {
                         status: Status::N3,
                         checkpoint: false,
@@ -85,7 +87,7 @@ pub fn run_bytes(
                     };
                 }
                 // N3 (R103).
-                Status::N3 => processes[at] = process.start(firsts[at]),
+                Status::N3 => processes[at] = processes[at].start(firsts[at]),
                 Status::Busy {
                     stage,
                     word: seen,
@@ -93,7 +95,7 @@ pub fn run_bytes(
                     tried_at,
                     answer,
                 } => {
-                    let row = process.open_row();
+                    let row = processes[at].open_row();
                     let k = usize::from(row);
                     let number = u8::from(stage);
                     match number {
@@ -107,6 +109,7 @@ pub fn run_bytes(
                             let kind = runfile::kind_of(operations.row(k));
                             let turned = !word::bit_of(u32::from(me), seen);
                             let value = word::value_of(seen);
+                            let process = processes[at];
                             processes[at] = Process {
                                 status: busy(Stage::A3, seen, read_at, tried_at, answer),
                                 kept: keep(kind, process.kept, turned, value),
@@ -115,6 +118,7 @@ pub fn run_bytes(
                         }
                         // A3 (R113).
                         2 => {
+                            let process = processes[at];
                             processes[at] = Process {
                                 status: busy(Stage::A4, seen, read_at, tried_at, answer),
                                 checkpoint: true,
@@ -146,6 +150,7 @@ pub fn run_bytes(
                         }
                         // A5, with the log row of any other answer (R115, R165 to R167).
                         4 => {
+                            let process = processes[at];
                             processes[at] = Process {
                                 status: busy(Stage::A6, seen, read_at, tried_at, answer),
                                 stored: answer,
@@ -163,23 +168,24 @@ pub fn run_bytes(
                         }
                         // V1 (R121).
                         6 => {
-                            let next = recovered_of(process.stored);
+                            let next = recovered_of(processes[at].stored);
                             processes[at].status = busy(next, seen, read_at, tried_at, answer);
                         }
                         // V2 (R122).
                         7 => {
-                            let next = by_checkpoint(process.checkpoint);
+                            let next = by_checkpoint(processes[at].checkpoint);
                             processes[at].status = busy(next, seen, read_at, tried_at, answer);
                         }
                         // V3 (R123).
                         8 => {
                             let now = word_now(operations, k, words);
-                            let next = by_bit(me, now, process.kept.bit);
+                            let next = by_bit(me, now, processes[at].kept.bit);
                             processes[at].status = busy(next, now, read_at, tried_at, answer);
                         }
                         // V4 (R124).
                         9 => {
                             let kind = runfile::kind_of(operations.row(k));
+                            let process = processes[at];
                             processes[at] = Process {
                                 status: busy(Stage::V5, seen, read_at, tried_at, answer),
                                 stored: Some(swap_says(kind, process.kept.value)),
@@ -188,6 +194,7 @@ pub fn run_bytes(
                         }
                         // A6, V5 and V6, with the answer row (R116, R125, R126, R163).
                         _ => {
+                            let process = processes[at];
                             let said = reply_of(number, answer, process.stored);
                             processes[at] = Process {
                                 status: Status::Idle,
@@ -203,8 +210,8 @@ pub fn run_bytes(
             1 => processes[at].status = Status::Down,
             // A wake, of a process that is down (R131, R132, R143).
             2 => {
-                if let Status::Down = process.status {
-                    match process.opened {
+                if let Status::Down = processes[at].status {
+                    match processes[at].opened {
                         None => processes[at].status = Status::Idle,
                         Some(_) => processes[at].status = busy(Stage::V1, 0, 0, 0, None),
                     }

@@ -52,7 +52,7 @@ impl Operations<'_> {
 
     // Of row k alone the process, and alone the word.
     #[tactic(auto, unfolding(crate::specs::Layout::row_at))]
-    pub fn process(self, k: usize) -> u8
+    fn process(self, k: usize) -> u8
         requires { HasRow self.stride self.table.now k }
         ensures { result ≡ (row_of_table self.entry.stride self.entry.table.now k).process }
     {
@@ -81,7 +81,8 @@ impl Operations<'_> {
     }
 }
 
-// The number of each process's first row: as many rows as the processes below it have.
+// The number of each process's first row: as many rows as the processes below it have. It is a table of its own beside that of
+// the counts, since each contract determines one table whole (`counted_one`, `summed_one`).
 pub fn firsts_of(counts: [u16; 16]) -> [u16; 16]
     requires { sum_to counts 16 < 65536 }
     ensures { Summed counts result }

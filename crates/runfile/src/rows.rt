@@ -40,7 +40,7 @@ fn is_bad_kind(version: u16, kind: u8) -> bool
     }
 }
 
-// Which kinds must have old 0 (R49e), and which new 0 (R49f).
+// Which kinds must have old 0 (R49e), and which new 0 (R49f): two rules, with a table each.
 fn has_zero_old(kind: Kind) -> bool
     ensures { result ≡ zero_old kind }
 {
