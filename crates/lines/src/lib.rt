@@ -6,9 +6,65 @@
 
 mod text;
 
+ghost use Rattle.std.specs.Prelude.{Some};
+ghost use Rattle.lines.specs.Text.{word_text, header_text};
+
 use run::Outcome;
 use runfile::Header;
+use std::fmt;
 pub use text::{put, put_name, put_number, write_text};
+
+// The line of a word: its number, its value and its flip bits as one number (R192).
+#[derive(Clone, Copy, Debug)]
+pub struct WordLine {
+    pub number: usize,
+    pub word: u64,
+}
+
+impl fmt::Display for WordLine {
+    ghost output = { λ line. Some (word_text line) };
+
+    fn fmt<W: fmt::Write>(&self, f: &mut fmt::Formatter<W>) -> fmt::Result {
+        let value = word::value_of(self.word);
+        let flips = word::flips_of(self.word);
+        write!(f, "word {} {value} {flips}", self.number)
+    }
+}
+
+// The line of a log or answer row: its name, and the five numbers that the slice begins with (R193, R194). Fewer are no row, and
+// nothing is written.
+#[derive(Clone, Copy, Debug)]
+pub struct RowLine<'a> {
+    pub name: &'a str,
+    pub numbers: &'a [u32],
+}
+
+impl fmt::Display for RowLine<'_> {
+    fn fmt<W: fmt::Write>(&self, f: &mut fmt::Formatter<W>) -> fmt::Result {
+        let [position, process, row, verdict, value, ..] = self.numbers else {
+            return Ok(());
+        };
+        f.write_str(self.name)?;
+        write!(f, " {position} {process} {row} {verdict} {value}")
+    }
+}
+
+// The first line of a run: P, W, the number of rows and S, as the header has them (R191).
+#[derive(Clone, Copy)]
+pub struct HeaderLine(pub Header);
+
+impl fmt::Display for HeaderLine {
+    ghost output = { λ line. Some (header_text line) };
+
+    fn fmt<W: fmt::Write>(&self, f: &mut fmt::Formatter<W>) -> fmt::Result {
+        let header = self.0;
+        write!(
+            f,
+            "run {} {} {} {}",
+            header.processes, header.words, header.rows, header.steps
+        )
+    }
+}
 
 // A number of a buffer, as wide as text takes it.
 fn wide(n: u32) -> u64 {
