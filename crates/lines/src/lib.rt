@@ -7,7 +7,7 @@
 mod text;
 
 ghost use Rattle.std.specs.Prelude.{Some};
-ghost use Rattle.lines.specs.Text.{word_text, header_text};
+ghost use Rattle.lines.specs.Text.{word_text, row_text, header_text};
 
 use run::Outcome;
 use runfile::Header;
@@ -40,6 +40,8 @@ pub struct RowLine<'a> {
 }
 
 impl fmt::Display for RowLine<'_> {
+    ghost output = { λ line. Some (row_text line) };
+
     fn fmt<W: fmt::Write>(&self, f: &mut fmt::Formatter<W>) -> fmt::Result {
         let [position, process, row, verdict, value, ..] = self.numbers else {
             return Ok(());
