@@ -68,6 +68,59 @@ impl fmt::Display for HeaderLine {
     }
 }
 
+// All lines of what a run came to: the file, the outcome, and what stands in the lent buffers after it. The buffers may hold more
+// than the run has.
+#[derive(Clone, Copy)]
+pub struct Lines<'a> {
+    pub file: &'a [u8],
+    pub outcome: Outcome,
+    pub words: &'a [u64],
+    pub log: &'a [u32],
+    pub answers: &'a [u32],
+}
+
+impl fmt::Display for Lines<'_> {
+    fn fmt<W: fmt::Write>(&self, f: &mut fmt::Formatter<W>) -> fmt::Result {
+        match self.outcome {
+            Outcome::Refused(why, place) => {
+                write!(f, "refused {} {place}", runfile::refusal_number(why))
+            }
+            Outcome::Ran { log, answers } => {
+                let header = runfile::header_or_zeros(self.file);
+                write!(f, "{}", HeaderLine(header))?;
+                write_words(f, self.words, usize::from(header.words))?;
+                write_rows(f, "log", self.log, log)?;
+                write_rows(f, "answer", self.answers, answers)
+            }
+        }
+    }
+}
+
+// Writes the lines of the first `count` words, each behind a newline.
+fn write_words<W: fmt::Write>(
+    f: &mut fmt::Formatter<W>,
+    words: &[u64],
+    count: usize,
+) -> fmt::Result {
+    for (number, &word) in words.iter().take(count).enumerate() {
+        write!(f, "\n{}", WordLine { number, word })?;
+    }
+    Ok(())
+}
+
+// Writes the lines of the first `count` rows, each behind a newline: a row has five numbers.
+fn write_rows<W: fmt::Write>(
+    f: &mut fmt::Formatter<W>,
+    name: &str,
+    rows: &[u32],
+    count: usize,
+) -> fmt::Result {
+    for numbers in rows.chunks_exact(5).take(count) {
+        write!(f, "\n{}", RowLine { name, numbers })?;
+    }
+    Ok(())
+}
+
 // A number of a buffer, as wide as text takes it.
 fn wide(n: u32) -> u64 {
     n as u64
