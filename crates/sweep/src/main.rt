@@ -4,19 +4,34 @@
 // A record of the stream is four little-endian 32-bit numbers, the length of the file and of the words, log and
 // answers buffers, and then the bytes of the file. A stream may end only between two records. At a record that is cut
 // off, or that asks for more than the program has, the program says so on standard error and stops; the outcomes of
-// the records before it are out by then. It has no exit status to give.
+// the records before it are out by then. Its exit status does not tell a damaged stream from a whole one.
 #![tactic(auto)]
 
 mod buffers;
 
 use buffers::{fill, fill_words, sum_over, sum_over_words};
-use std::io::{Eprint, Print, Read};
+use lines::Lines;
+use std::alloc::{AllocError, Global};
+use std::io::Read;
 
 // What the first number of the words buffer is before a run: 3,235,774,464 in both halves.
 const FIRST_WORD: u64 = 3235774464 * 4294967296 + 3235774464;
 
+// Why the sweep stops before the end of the stream.
+#[derive(Debug, Drop)]
+enum Stop {
+    Damaged,
+    OutOfMemory(AllocError),
+}
+
+impl From<AllocError> for Stop {
+    fn from(error: AllocError) -> Stop {
+        Stop::OutOfMemory(error)
+    }
+}
+
 // The four numbers that a record begins with.
-#[derive(Clone, Copy)]
+#[derive(Clone, Copy, Debug)]
 struct Lengths {
     file: usize,
     words: usize,
@@ -24,191 +39,92 @@ struct Lengths {
     answers: usize,
 }
 
-// What comes next in the stream.
-#[derive(Clone, Copy)]
-enum Next {
-    Record(Lengths),
-    Damaged,
-    End,
-}
-
-// The number of four bytes at a place, as an index.
-fn length_at(head: &[u8; 16], at: usize) -> usize {
-    if at > 12 {
-        return 0;
-    }
-    runfile::u32_at(head, at) as usize
-}
-
-// Reads the four numbers of the next record.
-fn next_lengths<R: Read>(from: &mut R) -> Next {
+// Reads the four numbers of the next record, or finds that the stream ends.
+fn next_lengths<R: Read>(from: &mut R) -> Result<Option<Lengths>, Stop> {
     let mut head = [0u8; 16];
-    let got = input::read_full(from, &mut head);
-    if got == 0 {
-        return Next::End;
+    match input::read_full(from, &mut head) {
+        0 => Ok(None),
+        16 => Ok(Some(Lengths {
+            file: runfile::u32_at(&head, 0) as usize,
+            words: runfile::u32_at(&head, 4) as usize,
+            log: runfile::u32_at(&head, 8) as usize,
+            answers: runfile::u32_at(&head, 12) as usize,
+        })),
+        _ => Err(Stop::Damaged),
     }
-    if got < 16 {
-        return Next::Damaged;
-    }
-    Next::Record(Lengths {
-        file: length_at(&head, 0),
-        words: length_at(&head, 4),
-        log: length_at(&head, 8),
-        answers: length_at(&head, 12),
-    })
 }
 
-// Puts the line of the sum over the three buffers.
-fn put_sum(out: &mut [u8], at: usize, words: &[u64], log: &[u32], answers: &[u32]) -> usize {
-    let mut sum = sum_over_words(1, words);
-    sum = sum_over(sum, log);
-    sum = sum_over(sum, answers);
-    let mut next = lines::put_name(out, at, b"sum");
-    next = lines::put_number(out, next, sum);
-    lines::put(out, next, b'\n')
+// Room for a record's file and its buffers, as much as a record may ask for, and the text of its outcome.
+#[derive(Drop)]
+struct Bench {
+    file: [u8; 8000],
+    words: [u64; 40],
+    log: [u32; 5200],
+    answers: [u32; 5200],
+    text: String,
 }
 
-// Runs a file over buffers of just the lengths that its record gives, and puts its lines. What the buffers hold before
-// the run is known, so that the sum tells a number that a run should have left alone.
-fn put_record(
-    out: &mut [u8],
-    file: &[u8],
-    words: &mut [u64],
-    log: &mut [u32],
-    answers: &mut [u32],
-) -> usize {
-    fill_words(words, FIRST_WORD);
-    fill(log, 274726912);
-    fill(answers, 2768240640);
-    let outcome = run::run(file, words, log, answers);
-    let next = lines::put_outcome(out, file, outcome, words, log, answers);
-    put_sum(out, next, words, log, answers)
-}
-
-// Reads a file, carries out its record and writes the lines. Every buffer is as long as the record says. False where
-// the stream ends within the file.
-fn sweep_file<R: Read>(
-    from: &mut R,
-    to: &impl Print,
-    out: &mut [u8],
-    file: &mut [u8],
-    words: &mut [u64],
-    log: &mut [u32],
-    answers: &mut [u32],
-) -> bool {
-    if input::read_full(from, file) < file.len() {
-        return false;
-    }
-    let end = put_record(out, file, words, log, answers);
-    lines::write_text(to, out, end);
-    true
-}
-
-// Carries out a record of these lengths. False where the record is damaged.
-fn sweep_record<R: Read>(
-    from: &mut R,
-    to: &impl Print,
-    lengths: Lengths,
-    out: &mut [u8],
-    file: &mut [u8],
-    words: &mut [u64],
-    log: &mut [u32],
-    answers: &mut [u32],
-) -> bool {
-    let n = lengths.file;
-    let w = lengths.words;
-    let l = lengths.log;
-    let a = lengths.answers;
-    if n > file.len() {
-        return false;
-    }
-    if w > words.len() {
-        return false;
-    }
-    if l > log.len() {
-        return false;
-    }
-    if a > answers.len() {
-        return false;
-    }
-    sweep_file(
-        from,
-        to,
-        out,
-        &mut file[..n],
-        &mut words[..w],
-        &mut log[..l],
-        &mut answers[..a],
-    )
-}
-
-// Says that the stream is damaged, on standard error: standard output has outcomes and nothing else.
-fn complain(to: &impl Eprint) {
-    let _ = eprintln!(to; "sweep: the stream is damaged");
-}
-
-// Carries out the next record, and answers whether to go on.
-fn sweep_next<R: Read>(
-    from: &mut R,
-    rt: &(impl Print + Eprint),
-    out: &mut [u8],
-    file: &mut [u8],
-    words: &mut [u64],
-    log: &mut [u32],
-    answers: &mut [u32],
-) -> bool {
-    match next_lengths(from) {
-        Next::End => false,
-        Next::Damaged => {
-            complain(rt);
-            false
-        }
-        Next::Record(lengths) => {
-            let whole = sweep_record(from, rt, lengths, out, file, words, log, answers);
-            if !whole {
-                complain(rt);
-            }
-            whole
+impl Bench {
+    fn new(alloc: Global) -> Bench {
+        Bench {
+            file: [0; 8000],
+            words: [0; 40],
+            log: [0; 5200],
+            answers: [0; 5200],
+            text: String::new(alloc),
         }
     }
-}
 
-// Goes through the stream. One that never ends is left after 2^32 - 1 records, since every Rattle program ends.
-fn sweep<R: Read>(
-    from: &mut R,
-    rt: &(impl Print + Eprint),
-    out: &mut [u8],
-    file: &mut [u8],
-    words: &mut [u64],
-    log: &mut [u32],
-    answers: &mut [u32],
-) {
-    let mut left = 4294967295u32;
-    while left > 0 {
-        if sweep_next(from, rt, out, file, words, log, answers) {
-            left -= 1;
-        } else {
-            left = 0;
+    // Reads the file of a record, runs it over buffers of just the lengths that the record gives, and makes the text of its
+    // outcome. What the buffers hold before the run is known, so that the sum tells a number that a run should have left alone.
+    fn carry_out<R: Read>(&mut self, from: &mut R, lengths: Lengths) -> Result<(), Stop> {
+        let file = self.file.get_mut(..lengths.file).ok_or(Stop::Damaged)?;
+        let words = self.words.get_mut(..lengths.words).ok_or(Stop::Damaged)?;
+        let log = self.log.get_mut(..lengths.log).ok_or(Stop::Damaged)?;
+        let answers = self.answers.get_mut(..lengths.answers).ok_or(Stop::Damaged)?;
+        if input::read_full(from, file) < file.len() {
+            return Err(Stop::Damaged);
         }
+        fill_words(words, FIRST_WORD);
+        fill(log, 274726912);
+        fill(answers, 2768240640);
+        let outcome = run::run(file, words, log, answers);
+        let sum = sum_over(sum_over(sum_over_words(1, words), log), answers);
+        let lines = Lines {
+            file,
+            outcome,
+            words,
+            log,
+            answers,
+        };
+        self.text.clear();
+        write!(self.text, "{lines}\nsum {sum}\n")?;
+        Ok(())
     }
 }
 
-fn main(rt: HostRuntime) {
-    let mut from = rt.reader();
-    // Room for the longest outcome (62,963 bytes, see `swr`) and its line of the sum.
-    let mut out = [0u8; 65536];
-    // The most that a record may ask for.
-    let mut file = [0u8; 8000];
-    let mut words = [0u64; 40];
-    let mut log = [0u32; 5200];
-    let mut answers = [0u32; 5200];
-    sweep(
-        &mut from,
-        &rt,
-        &mut out,
-        &mut file,
-        &mut words,
-        &mut log,
-        &mut answers,
-    );
+// Goes through the stream, and writes each outcome in one call. Nobody is left to tell when the output is closed. A stream that
+// never ends is left after 2^32 - 1 records, since every Rattle program ends.
+fn sweep<R: Read>(from: &mut R, to: &impl Print, bench: &mut Bench) -> Result<(), Stop> {
+    for _ in 0..u32::MAX {
+        let Some(lengths) = next_lengths(from)? else {
+            break;
+        };
+        bench.carry_out(from, lengths)?;
+        let _ = to.write_all(bench.text.as_bytes());
+    }
+    Ok(())
+}
+
+fn main(rt: HostRuntime) -> Result<(), AllocError> {
+    let mut bench = Bench::new(rt.alloc());
+    match sweep(&mut rt.reader(), &rt, &mut bench) {
+        Ok(()) => Ok(()),
+        Err(Stop::Damaged) => {
+            // On standard error: standard output has outcomes and nothing else.
+            let _ = eprintln!(rt; "sweep: the stream is damaged");
+            Ok(())
+        }
+        Err(Stop::OutOfMemory(error)) => Err(error),
+    }
 }
