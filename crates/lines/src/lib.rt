@@ -7,17 +7,15 @@
 mod text;
 
 ghost use Rattle.std.specs.Prelude.{Some};
-ghost use Rattle.std.specs.Fmt.{WritesOnOk};
-ghost use Rattle.lines.specs.Text.{numbered, word_text, row_text, header_text};
+ghost use Rattle.lines.specs.Text.{word_text, row_text, header_text};
 
-use run::Outcome;
-use runfile::Header;
+use run::Counts;
+use runfile::{Header, Refused};
 use std::fmt;
-use std::fmt::Display;
 pub use text::{put, put_name, put_number, write_text};
 
 // The line of a word: its number, its value and its flip bits as one number (R192).
-#[derive(Clone, Copy, Debug)]
+#[derive(Clone, Copy, Debug, PartialEq, Eq)]
 pub struct WordLine {
     pub number: usize,
     pub word: u64,
@@ -35,7 +33,7 @@ impl fmt::Display for WordLine {
 
 // The line of a log or answer row: its name, and the five numbers that the slice begins with (R193, R194). Fewer are no row, and
 // nothing is written.
-#[derive(Clone, Copy, Debug)]
+#[derive(Clone, Copy, Debug, PartialEq, Eq)]
 pub struct RowLine<'a> {
     pub name: &'a str,
     pub numbers: &'a [u32],
@@ -45,30 +43,22 @@ impl fmt::Display for RowLine<'_> {
     ghost output = { λ line. Some (row_text line) };
 
     fn fmt<W: fmt::Write>(&self, f: &mut fmt::Formatter<W>) -> fmt::Result {
-        let [position, process, row, verdict, value, ..] = self.numbers else {
+        let Some(numbers) = self.numbers.first_chunk::<5>() else {
             return Ok(());
         };
+        // By `itoa`: rows are nearly all that a program prints, and with `write!` the whole program takes up to 1.4 times as long.
+        let mut digits = itoa::Buffer::new();
         f.write_str(self.name)?;
-        write_number(f, *position)?;
-        write_number(f, *process)?;
-        write_number(f, *row)?;
-        write_number(f, *verdict)?;
-        write_number(f, *value)
+        for &number in numbers {
+            f.write_str(" ")?;
+            f.write_str(digits.format(number))?;
+        }
+        Ok(())
     }
 }
 
-// Writes a space and a number of a row. Rows are nearly all that a program prints, and with `write!` in place of `itoa` the whole
-// program takes up to 1.4 times as long.
-fn write_number<W: fmt::Write>(f: &mut fmt::Formatter<W>, number: u32) -> fmt::Result
-    ensures { WritesOnOk W.write_str_gives f.old result (numbered number) f.new }
-{
-    let mut digits = itoa::Buffer::new();
-    f.write_str(" ")?;
-    f.write_str(digits.format(number))
-}
-
 // The first line of a run: P, W, the number of rows and S, as the header has them (R191).
-#[derive(Clone, Copy)]
+#[derive(Clone, Copy, Debug, PartialEq, Eq)]
 pub struct HeaderLine(pub Header);
 
 impl fmt::Display for HeaderLine {
@@ -86,10 +76,10 @@ impl fmt::Display for HeaderLine {
 
 // All lines of what a run came to: the file, the outcome, and what stands in the lent buffers after it. The buffers may hold more
 // than the run has.
-#[derive(Clone, Copy)]
+#[derive(Clone, Copy, Debug, PartialEq, Eq)]
 pub struct Lines<'a> {
     pub file: &'a [u8],
-    pub outcome: Outcome,
+    pub outcome: Result<Counts, Refused>,
     pub words: &'a [u64],
     pub log: &'a [u32],
     pub answers: &'a [u32],
@@ -98,15 +88,15 @@ pub struct Lines<'a> {
 impl fmt::Display for Lines<'_> {
     fn fmt<W: fmt::Write>(&self, f: &mut fmt::Formatter<W>) -> fmt::Result {
         match self.outcome {
-            Outcome::Refused(why, place) => {
+            Err(Refused { why, place }) => {
                 write!(f, "refused {} {place}", runfile::refusal_number(why))
             }
-            Outcome::Ran { log, answers } => {
+            Ok(counts) => {
                 let header = runfile::header_or_zeros(self.file);
                 write!(f, "{}", HeaderLine(header))?;
                 write_words(f, self.words, usize::from(header.words))?;
-                write_rows(f, "log", self.log, log)?;
-                write_rows(f, "answer", self.answers, answers)
+                write_rows(f, "log", self.log, counts.log)?;
+                write_rows(f, "answer", self.answers, counts.answers)
             }
         }
     }
@@ -132,8 +122,7 @@ fn write_rows<W: fmt::Write>(
     count: usize,
 ) -> fmt::Result {
     for numbers in rows.chunks_exact(5).take(count) {
-        f.write_str("\n")?;
-        RowLine { name, numbers }.fmt(f)?;
+        write!(f, "\n{}", RowLine { name, numbers })?;
     }
     Ok(())
 }
@@ -216,29 +205,4 @@ pub fn put_refusal(out: &mut [u8], at: usize, number: u32, place: usize) -> usiz
     next = put_number(out, next, wide(number));
     next = put_number(out, next, place as u64);
     put(out, next, b'\n')
-}
-
-// Puts the lines of what a run came to, from its outcome and from what stands in the lent buffers after it. They begin
-// the text.
-pub fn put_outcome(
-    out: &mut [u8],
-    file: &[u8],
-    outcome: Outcome,
-    words: &[u64],
-    log: &[u32],
-    answers: &[u32],
-) -> usize {
-    match outcome {
-        Outcome::Refused(why, place) => put_refusal(out, 0, runfile::refusal_number(why), place),
-        Outcome::Ran {
-            log: log_rows,
-            answers: answer_rows,
-        } => {
-            let header = runfile::header_or_zeros(file);
-            let mut next = put_header(out, 0, header);
-            next = put_words(out, next, words, runfile::index8(header.words));
-            next = put_rows(out, next, b"log", log, log_rows);
-            put_rows(out, next, b"answer", answers, answer_rows)
-        }
-    }
 }
