@@ -1,7 +1,8 @@
 -- The sum over several numbers at once is the sum over them one by one: powers, products and their sums may all be taken by the modulus.
-use Rattle.std.proofs.Common.{◌≡◌, ℕ, suc, ◌+◌, ◌*◌, ◌/◌, ◌%◌, ◌<◌, ◌≤◌, List, [], ◌∷◌, ◌++◌, length, get_or, take, drop, sym, refl, ap, ◌∙◌, add-suc, mod-lt, mod-eq_of_lt, mul_assoc, mul_comm, add-mul, add-one, arith, take-append-drop, drop_of_length-le, drop-cons, drop-drop}
+use Rattle.std.proofs.Common.{rules, ◌≡◌, ℕ, ◌+◌, ◌*◌, ◌/◌, ◌%◌, ◌<◌, ◌≤◌, List, [], ◌∷◌, ◌++◌, length, get_or, take, drop, sym, refl, ap, ◌∙◌, mod-lt, mod-eq_of_lt, mul_assoc, mul_comm, add-mul, arith, take-append-drop, drop_of_length-le, ext_get_or}
+use Rattle.std.proofs.lemmas.List.{drop_more}
 use native.Mathlib.Nat.{mod-add-div, add-mod-mod, add-mul-mod_self_left}
-use Rattle.sweep.specs.Sum.{factor, modulus, taken, sum_from, half, halves}
+use Rattle.sweep.specs.Sum.{factor, modulus, taken, sum_from, sum_over, halves}
 use Rattle.sweep.specs.Blocks.{power, weighed, Weighs}
 
 -- a factor may be taken by the modulus first
@@ -35,6 +36,9 @@ unfolding sum_from taken
 sum_below s [] h = h
 sum_below s (x ∷ xs) h = sum_below (taken s x) xs (mod-lt (s * factor + x) (omega arith))
 
+pub sum_over_below : (before : ℕ) (xs : List ℕ) (r : ℕ) → r ≡ sum_over before xs → r < modulus
+sum_over_below before xs r e = rw e (sum_below (before % modulus) xs (mod-lt before (omega arith)))
+
 sum_append : (s : ℕ) (xs ys : List ℕ) → sum_from s (xs ++ ys) ≡ sum_from (sum_from s xs) ys
 unfolding sum_from
 sum_append s [] ys = refl
@@ -49,43 +53,38 @@ groups a b c d e f g h =
     parts_in (a * 916243952 + b * 1379304049 + c * 1574493010) (d * 649841061 + e * 1748059978 + g * 1000003) (f * 3573588497 + h)
     ∙ ap (λ s. s % modulus) (omega arith)
 
+-- a block has eight numbers
+eight : (xs : List ℕ) → length xs ≡ 8 → xs ≡ get_or xs 0 0 ∷ get_or xs 1 0 ∷ get_or xs 2 0 ∷ get_or xs 3 0 ∷ get_or xs 4 0 ∷ get_or xs 5 0 ∷ get_or xs 6 0 ∷ get_or xs 7 0 ∷ []
+eight xs long = ext_get_or 0 xs _ long (λ k h. search (rules, arith))
+
+pub weighs : (xs : List ℕ) → length xs ≡ 8 →
+    Weighs xs ((get_or xs 0 0 * 916243952 + get_or xs 1 0 * 1379304049 + get_or xs 2 0 * 1574493010) % modulus + (get_or xs 3 0 * 649841061 + get_or xs 4 0 * 1748059978 + get_or xs 6 0 * 1000003) % modulus + (get_or xs 5 0 * 3573588497 + get_or xs 7 0) % modulus)
+weighs xs long = (groups _ _ _ _ _ _ _ _ ∙ ap (λ l. weighed l % modulus) (sym (eight xs long)), omega arith)
+
+block_taken : (s : ℕ) (block : List ℕ) (r : ℕ) → length block ≡ 8 → s < modulus → Weighs block r → sum_from s block ≡ (s * 1328542826 + r) % modulus
+unfolding power
+block_taken s block r long b w =
+    sym (mod-eq_of_lt (sum_below s block b))
+    ∙ at_once s block
+    ∙ ap (λ n. (s * power n + weighed block) % modulus) long
+    ∙ sym (add-mod-mod (s * 1328542826) (weighed block) modulus)
+    ∙ ap (λ x. (s * 1328542826 + x) % modulus) (sym w.0)
+    ∙ add-mod-mod (s * 1328542826) r modulus
+
+-- before each turn the sum over what is left is the whole sum: a turn takes a block of eight numbers
+pub eight_more : (s all : ℕ) (rest block behind : List ℕ) (r : ℕ) → sum_from s rest ≡ all → block ≡ take 8 rest → behind ≡ drop 8 rest → length block ≡ 8 → s < modulus → Weighs block r → sum_from ((s * 1328542826 + r) % modulus) behind ≡ all
+eight_more s all rest block behind r kept front back long b w =
+    ap (λ x. sum_from x behind) (sym (block_taken s block r long b w))
+    ∙ sym (sum_append s block behind)
+    ∙ ap (sum_from s) (ap (λ l. l ++ behind) front ∙ ap (λ l. take 8 rest ++ l) back ∙ take-append-drop 8 rest)
+    ∙ kept
+
+-- or one number, or one word, which is two numbers
 module _ (xs : List ℕ) (i : ℕ) where
   first : i < length xs → drop i xs ≡ get_or xs i 0 ∷ drop (i + 1) xs
-  first h = rw (add-one i) (drop-cons xs i 0 h)
+  first h = drop_more xs i 0 h
 
-  next : (k : ℕ) → i + k < length xs → drop (i + k) xs ≡ get_or xs (i + k) 0 ∷ drop (i + suc k) xs
-  next k h = rw (add-suc i k) (drop-cons xs (i + k) 0 h)
-
-  eight : i + 8 ≤ length xs → take 8 (drop i xs) ≡ get_or xs i 0 ∷ get_or xs (i + 1) 0 ∷ get_or xs (i + 2) 0 ∷ get_or xs (i + 3) 0 ∷ get_or xs (i + 4) 0 ∷ get_or xs (i + 5) 0 ∷ get_or xs (i + 6) 0 ∷ get_or xs (i + 7) 0 ∷ []
-  eight h = rw (first (omega arith), next 1 (omega arith), next 2 (omega arith), next 3 (omega arith), next 4 (omega arith), next 5 (omega arith), next 6 (omega arith), next 7 (omega arith))
-
-  pub weighs : (a b c d e f g h : ℕ) → i + 8 ≤ length xs →
-      a ≡ get_or xs i 0 → b ≡ get_or xs (i + 1) 0 → c ≡ get_or xs (i + 2) 0 → d ≡ get_or xs (i + 3) 0 →
-      e ≡ get_or xs (i + 4) 0 → f ≡ get_or xs (i + 5) 0 → g ≡ get_or xs (i + 6) 0 → h ≡ get_or xs (i + 7) 0 →
-      Weighs xs i ((a * 916243952 + b * 1379304049 + c * 1574493010) % modulus + (d * 649841061 + e * 1748059978 + g * 1000003) % modulus + (f * 3573588497 + h) % modulus)
-  weighs a b c d e f g h fits ea eb ec ed ee ef eg eh =
-      (groups a b c d e f g h ∙ rw (ea, eb, ec, ed, ee, ef, eg, eh, eight fits), omega arith)
-
-  -- before turn i the sum from number i on is the whole sum: a turn takes eight numbers, or one
   module _ (s all : ℕ) (kept : sum_from s (drop i xs) ≡ all) where
-    block_taken : (r : ℕ) → i + 8 ≤ length xs → s < modulus → Weighs xs i r → sum_from s (take 8 (drop i xs)) ≡ (s * 1328542826 + r) % modulus
-    unfolding power
-    block_taken r h b w =
-        let many : length (take 8 (drop i xs)) ≡ 8 = rw (eight h) in
-        sym (mod-eq_of_lt (sum_below s (take 8 (drop i xs)) b))
-        ∙ at_once s (take 8 (drop i xs))
-        ∙ ap (λ n. (s * power n + weighed (take 8 (drop i xs))) % modulus) many
-        ∙ sym (add-mod-mod (s * 1328542826) (weighed (take 8 (drop i xs))) modulus)
-        ∙ ap (λ x. (s * 1328542826 + x) % modulus) (sym w.0)
-        ∙ add-mod-mod (s * 1328542826) r modulus
-
-    pub eight_more : (r : ℕ) → i + 8 ≤ length xs → s < modulus → Weighs xs i r → sum_from ((s * 1328542826 + r) % modulus) (drop (i + 8) xs) ≡ all
-    eight_more r h b w =
-        ap (λ x. sum_from x (drop (i + 8) xs)) (sym (block_taken r h b w))
-        ∙ sym (sum_append s (take 8 (drop i xs)) (drop (i + 8) xs))
-        ∙ ap (sum_from s) (ap (λ x. take 8 (drop i xs) ++ x) (sym (drop-drop 8 i xs)) ∙ take-append-drop 8 (drop i xs))
-        ∙ kept
-
     pub one_more : (x : ℕ) → i < length xs → x ≡ get_or xs i 0 → sum_from ((s * factor + x) % modulus) (drop (i + 1) xs) ≡ all
     unfolding sum_from taken
     one_more x h e = rw e (rw (first h) at kept)
@@ -94,11 +93,10 @@ module _ (xs : List ℕ) (i : ℕ) where
     unfolding sum_from
     over h = rw (drop_of_length-le xs h) at kept
 
-  -- and the same of words, of which a turn takes one, that is two numbers
   module _ (s all : ℕ) (kept : sum_from s (halves (drop i xs)) ≡ all) where
-    pub word_more : (x y : ℕ) → i < length xs → x ≡ get_or xs i 0 % half → y ≡ get_or xs i 0 / half → sum_from (((s * factor + x) % modulus * factor + y) % modulus) (halves (drop (i + 1) xs)) ≡ all
+    pub word_more : (r : ℕ) → i < length xs → s < modulus → r ≡ sum_over s (halves (get_or xs i 0 ∷ [])) → sum_from r (halves (drop (i + 1) xs)) ≡ all
     unfolding sum_from taken halves
-    word_more x y h ex ey = rw (ex, ey) (rw (first h) at kept)
+    word_more r h b e = rw (e, mod-eq_of_lt b) (rw (first h) at kept)
 
     pub words_over : length xs ≤ i → s ≡ all
     unfolding sum_from halves

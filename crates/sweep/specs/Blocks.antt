@@ -1,5 +1,5 @@
 -- Several numbers at once: each is weighed by the power of the factor that is still to come behind it.
-use Rattle.std.specs.Prelude.{◌≡◌, ℕ, zero, suc, ◌+◌, ◌*◌, ◌%◌, ◌<◌, List, [], ◌∷◌, length, take, drop}
+use Rattle.std.specs.Prelude.{◌≡◌, ℕ, zero, suc, ◌+◌, ◌*◌, ◌%◌, ◌<◌, List, [], ◌∷◌, length}
 use Rattle.sweep.specs.Sum.{factor, modulus}
 
 -- a power of the factor, by the modulus
@@ -11,6 +11,6 @@ unfoldable pub weighed : List ℕ → ℕ
 weighed [] = 0
 weighed (x ∷ xs) = x * power (length xs) + weighed xs
 
--- `block_at(buffer, i)`: what the eight numbers from number i on weigh, up to the modulus, and small enough to be added to a product
-abbrev pub Weighs : (xs : List ℕ) (i r : ℕ) → Type 0
-Weighs xs i r = (r % modulus ≡ weighed (take 8 (drop i xs)) % modulus) × (r < 3 * modulus)
+-- `weight_of(block)`: what the numbers of a block weigh, up to the modulus, and small enough to be added to a product
+abbrev pub Weighs : (xs : List ℕ) (r : ℕ) → Type 0
+Weighs xs r = (r % modulus ≡ weighed xs % modulus) × (r < 3 * modulus)

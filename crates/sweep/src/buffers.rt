@@ -1,6 +1,6 @@
 // What stands in a lent buffer before a run, and the sum over it afterwards.
-ghost use Rattle.std.specs.Prelude.{◌≡◌, ◌+◌, ◌/◌, ◌%◌, ◌<◌, ◌≤◌, length};
-ghost use Rattle.sweep.specs.Sum.{half, Summed, SummedWords};
+ghost use Rattle.std.specs.Prelude.{◌≡◌, [], ◌∷◌};
+ghost use Rattle.sweep.specs.Sum.{halves, Summed, SummedWords};
 ghost use Rattle.sweep.specs.Blocks.{Weighs};
 
 // The sum's factor and modulus, the largest prime below 2^32; and the powers of the factor, each by the modulus.
@@ -25,47 +25,43 @@ const F8: u64 = F7 * F1 % MODULUS;
 // How many numbers 32 bits hold.
 const HALF: u64 = 1 << 32;
 
+// A number of a lent buffer.
+pub trait Number: Copy {
+    // The number that is greater by one; after the greatest comes 0.
+    fn wrapping_next(self) -> Self;
+}
+
+impl Number for u32 {
+    fn wrapping_next(self) -> u32 {
+        self.wrapping_add(1)
+    }
+}
+
+impl Number for u64 {
+    fn wrapping_next(self) -> u64 {
+        self.wrapping_add(1)
+    }
+}
+
 // Fills a buffer with numbers that rise by one, from the given one on.
-pub fn fill(buffer: &mut [u32], first: u32) {
+pub fn fill<T: Number>(buffer: &mut [T], first: T) {
     let mut number = first;
-    let mut i = 0;
-    while i < buffer.len() {
-        let present = number;
-        number = std::num::wrapping_add_u32(number, 1);
-        buffer[i] = present;
-        i += 1;
+    for place in buffer.iter_mut() {
+        *place = number;
+        number = number.wrapping_next();
     }
-}
-
-// Likewise a buffer of words, which are numbers of 64 bits.
-pub fn fill_words(buffer: &mut [u64], first: u64) {
-    let mut number = first;
-    let mut i = 0;
-    while i < buffer.len() {
-        let present = number;
-        number = std::num::wrapping_add_u64(number, 1);
-        buffer[i] = present;
-        i += 1;
-    }
-}
-
-// A number of a buffer, as wide as the sum takes it.
-fn wide(n: u32) -> u64
-    ensures { (result ≡ n) × (result < 4294967296) }
-{
-    n as u64
 }
 
 // What eight numbers add to a sum that is multiplied by the factor eight times. Three groups of products, each as many
 // as 64 bits hold, so that eight numbers take three remainders.
-fn block_at(buffer: &[u32], i: usize) -> u64
-    requires { i + 8 ≤ length buffer.now }
-    ensures { Weighs buffer.now i result }
+fn weight_of(block: &[u32; 8]) -> u64
+    ensures { Weighs block.now result }
 {
-    let a = wide(buffer[i]) * F7 + wide(buffer[i + 1]) * F6 + wide(buffer[i + 2]) * F5;
-    let b = wide(buffer[i + 3]) * F4 + wide(buffer[i + 4]) * F3 + wide(buffer[i + 6]) * F1;
-    let c = wide(buffer[i + 5]) * F2 + wide(buffer[i + 7]);
-    a % MODULUS + b % MODULUS + c % MODULUS
+    let [a, b, c, d, e, f, g, h] = *block;
+    let front = u64::from(a) * F7 + u64::from(b) * F6 + u64::from(c) * F5;
+    let middle = u64::from(d) * F4 + u64::from(e) * F3 + u64::from(g) * F1;
+    let back = u64::from(f) * F2 + u64::from(h);
+    front % MODULUS + middle % MODULUS + back % MODULUS
 }
 
 // Goes on with a sum over a buffer: for each number x it becomes (sum * 1,000,003 + x) mod 4,294,967,291. The first
@@ -77,42 +73,30 @@ pub fn sum_over(before: u64, buffer: &[u32]) -> u64
     ensures { Summed before buffer.now result }
 {
     let mut sum = before % MODULUS;
-    let mut i = 0;
-    while buffer.len() - i >= 8 {
-        sum = (sum * F8 + block_at(buffer, i)) % MODULUS;
-        i += 8;
+    let mut rest = buffer;
+    while let Some((block, behind)) = rest.split_first_chunk::<8>() {
+        sum = (sum * F8 + weight_of(block)) % MODULUS;
+        rest = behind;
     }
-    while i < buffer.len() {
-        sum = (sum * F1 + wide(buffer[i])) % MODULUS;
-        i += 1;
+    for &number in rest {
+        sum = (sum * F1 + u64::from(number)) % MODULUS;
     }
     sum
 }
 
-// A word is two numbers in the sum: its low 32 bits, and its high 32 bits.
-fn low(word: u64) -> u64
-    ensures { (result ≡ word % half) × (result < half) }
-{
-    word % HALF
-}
-
-fn high(word: u64) -> u64
-    ensures { (result ≡ word / half) × (result < half) }
-{
-    word / HALF
-}
-
-// Goes on with a sum over a buffer of words, number by number: there are few of them.
-pub fn sum_over_words(before: u64, buffer: &[u64]) -> u64
-    ensures { SummedWords before buffer.now result }
+// Goes on with a sum over a buffer of words. A word is two numbers in the sum: its low 32 bits, and then its high 32 bits.
+pub fn sum_over_words(before: u64, words: &[u64]) -> u64
+    ensures { SummedWords before words.now result }
 {
     let mut sum = before % MODULUS;
-    let mut i = 0;
-    while i < buffer.len() {
-        let word = buffer[i];
-        sum = (sum * F1 + low(word)) % MODULUS;
-        sum = (sum * F1 + high(word)) % MODULUS;
-        i += 1;
+    for &word in words {
+        sum = sum_over(sum, &halves_of(word));
     }
     sum
+}
+
+fn halves_of(word: u64) -> [u32; 2]
+    ensures { result ≡ halves (word ∷ []) }
+{
+    [(word % HALF) as u32, (word / HALF) as u32]
 }

@@ -9,7 +9,7 @@
 
 mod buffers;
 
-use buffers::{fill, fill_words, sum_over, sum_over_words};
+use buffers::{fill, sum_over, sum_over_words};
 use lines::Lines;
 use std::alloc::{AllocError, Global};
 use std::io::Read;
@@ -81,11 +81,14 @@ impl Bench {
         let file = self.file.get_mut(..lengths.file).ok_or(Stop::Damaged)?;
         let words = self.words.get_mut(..lengths.words).ok_or(Stop::Damaged)?;
         let log = self.log.get_mut(..lengths.log).ok_or(Stop::Damaged)?;
-        let answers = self.answers.get_mut(..lengths.answers).ok_or(Stop::Damaged)?;
+        let answers = self
+            .answers
+            .get_mut(..lengths.answers)
+            .ok_or(Stop::Damaged)?;
         if input::read_full(from, file) < file.len() {
             return Err(Stop::Damaged);
         }
-        fill_words(words, FIRST_WORD);
+        fill(words, FIRST_WORD);
         fill(log, 274726912);
         fill(answers, 2768240640);
         let outcome = run::run(file, words, log, answers);
