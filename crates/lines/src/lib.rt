@@ -88,9 +88,7 @@ pub struct Lines<'a> {
 impl fmt::Display for Lines<'_> {
     fn fmt<W: fmt::Write>(&self, f: &mut fmt::Formatter<W>) -> fmt::Result {
         match self.outcome {
-            Err(Refused { why, place }) => {
-                write!(f, "refused {} {place}", runfile::refusal_number(why))
-            }
+            Err(refused) => write!(f, "{refused}"),
             Ok(counts) => {
                 let header = runfile::header_or_zeros(self.file);
                 write!(f, "{}", HeaderLine(header))?;
