@@ -17,16 +17,16 @@ pub fn read_full<R: Read>(from: &mut R, buffer: &mut [u8]) -> usize
     let mut done = 0;
     while done < buffer.len() {
         match from.read(&mut buffer[done..]) {
-            Ok(0) => break,
+            Ok(0) | Err(_) => break,
             Ok(n) => done += n,
-            Err(_) => break,
         }
     }
     done
 }
 
 // Reads a run file, and answers how many bytes stand in front. Of a file that is longer than any run file the first bytes are
-// read: with those it comes to what the whole file comes to (`first-bytes`, run/specs).
+// read: with those it comes to what the whole file comes to (`first-bytes`, run/specs). The answer is not the slice that was read:
+// a room that its result borrows has no value after the call that a contract could name.
 pub fn read_file<R: Read>(from: &mut R, file: &mut [u8; runfile::ENOUGH_BYTES]) -> usize
     ensures within { Reads result file.new }
     ensures bytes { Consumes (R.remaining from.old) (R.remaining from.new) (take result file.new) }
