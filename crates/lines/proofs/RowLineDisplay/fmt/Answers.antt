@@ -12,7 +12,7 @@ loop-number-preserved g c p =
     let at = c.loop-number.number-index in
     let number = get_or numbers at 0 in
     has_written_of_eq _ _ _ _ _
-        (append_assoc (name ++ flat_map numbered (take at numbers)) (codes " ") (decimal number)
-        ∙ flat_map_more numbered name (take at numbers) number
-        ∙ ap (λ l. name ++ flat_map numbered l) (sym (take_more numbers at 0 (search rules))))
-        (has_written_append _ _ _ _ _ _ (has_written_append _ _ _ _ _ c.write_str-in-loop-number.new.self (c.loop-number.invariant p) (search rules)) (search rules))
+    (append_assoc (name ++ flat_map numbered (take at numbers)) (codes " ") (decimal number)
+    ∙ flat_map_more numbered name (take at numbers) number
+    ∙ ap (λ l. name ++ flat_map numbered l) (sym (take_more numbers at 0 (search rules))))
+    (has_written_append _ _ _ _ _ _ (has_written_append _ _ _ _ _ c.write_str-in-loop-number.new.self (c.loop-number.invariant p) (search rules)) (search rules))
