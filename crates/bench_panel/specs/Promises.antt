@@ -1,10 +1,11 @@
 -- What the program's own functions promise of a key.
-use Rattle.std.specs.Prelude.{ℕ, List}
+use Rattle.std.specs.Prelude.{Result}
+use Rattle.run.specs.declared.Counts.{Counts}
+use Rattle.panel.specs.declared.Refused.{Refused}
 use Rattle.panel.specs.declared.Stroke.{Stroke}
 use Rattle.panel.specs.Promises.{Keyed}
-use Rattle.bench_panel.specs.declared.Bench.{Bench}
-use Rattle.bench_panel.specs.declared.Pressed.{Pressed}
+use Rattle.bench_panel.specs.declared.bench.BenchPanel.{BenchPanel}
 
--- `lend_records(file, bench, words, log, answers, key)`: what a key comes to over the bench's own records
-abbrev pub Lends : (file : List ℕ) → Bench → (words log answers : List ℕ) → Stroke → Pressed → (words' log' answers' : List ℕ) → Type 0
-Lends file bench words log answers key r = Keyed file bench.records words log answers key r.outcome r.bench.records
+-- `lend_records(self, key)`: what a key comes to over the bench's own records and words, and over the rows
+abbrev pub Lends : BenchPanel → Stroke → Result Counts Refused → BenchPanel → Type 0
+Lends p key r p' = Keyed p.file.now p.bench.records p.bench.words p.log.items p.answers.items key r p'.bench.records p'.bench.words p'.log.items p'.answers.items

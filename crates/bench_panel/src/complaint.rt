@@ -1,7 +1,7 @@
 // What the panel says on standard error where it cannot begin: what failed, and why, in the system's words.
-use lines::{put, put_name};
+use std::alloc::{AllocError, Global};
 use std::env::FillError;
-use std::io::{Error, Print, Write};
+use std::io::{Error, Print};
 
 // Why an argument was not had.
 pub fn reason_of(error: FillError) -> &'static str {
@@ -11,28 +11,33 @@ pub fn reason_of(error: FillError) -> &'static str {
     }
 }
 
-// Says that something failed, and why.
-pub fn complain(to: &impl Print, what: &[u8], why: &str) {
-    // Room for a path of 4,096 bytes and a reason of 128.
-    let mut out = [0u8; 4352];
-    let mut next = put_name(&mut out, 0, what);
-    next = put_name(&mut out, next, b": ");
-    next = put_name(&mut out, next, why.as_bytes());
-    next = put(&mut out, next, b'\n');
-    lines::write_text(to, &out, next);
+// Says that something failed, and why. What failed may be a name that is no text. Nobody is left to tell when the output is
+// closed, so the answer of the write is not looked at.
+pub fn complain(alloc: Global, to: &impl Print, what: &[u8], why: &str) -> Result<(), AllocError> {
+    let mut line = Vec::new(alloc);
+    line.extend_from_slice(what)?;
+    line.extend_from_slice(b": ")?;
+    line.extend_from_slice(why.as_bytes())?;
+    line.push(b'\n')?;
+    let _ = to.write_all(line.as_slice());
+    Ok(())
 }
 
-// Likewise, where a call of the system failed. Behind its words std puts the number of the error in brackets, which is left
-// out here.
-pub fn complain_of(to: &impl Print, what: &[u8], error: Error) {
-    let mut bytes = [0u8; 128];
-    let mut room = &mut bytes[..];
-    let _ = write!(room, "{error}");
-    let Ok(said) = std::str::from_utf8(&bytes) else {
-        return;
-    };
+// The system's words alone: behind them std puts the number of the error in brackets.
+fn without_number(said: &str) -> &str {
     match said.split_once(" (os error ") {
-        Some((words, _)) => complain(to, what, words),
-        None => complain(to, what, said.trim_end_matches('\0')),
+        Some((words, _)) => words,
+        None => said,
     }
+}
+
+// Likewise, where a call of the system failed.
+pub fn complain_of(
+    alloc: Global,
+    to: &impl Print,
+    what: &[u8],
+    error: Error,
+) -> Result<(), AllocError> {
+    let said = format!(in alloc; "{error}")?;
+    complain(alloc, to, what, without_number(said.as_str()))
 }

@@ -4,4 +4,4 @@ use Rattle.runfile.proofs.Lawful.{lawful_file}
 use Rattle.bench_panel.proofs.open.Goals as goal
 
 pub start_words-words-requires : goal.start_words-words-requires
-start_words-words-requires g c = lawful_file _ _ (sym c.check_file.ensures ∙ c.in-Accepted.is)
+start_words-words-requires g c = lawful_file _ _ (sym c.check_file.ensures ∙ c.in-Ok.is)

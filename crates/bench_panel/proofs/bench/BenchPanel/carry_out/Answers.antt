@@ -1,9 +1,9 @@
 -- `carry_out` meets its contract: a key that went came at a position of at most 1,023 (`early`), so the next position is in reach.
 use Rattle.std.proofs.Common.{sym, ◌∙◌, arith}
 use Rattle.bench_panel.proofs.Early.{early}
-use Rattle.bench_panel.proofs.carry_out.Goals as goal
+use Rattle.bench_panel.proofs.bench.BenchPanel.carry_out.Goals as goal
 
-pub overflow_add-later : goal.overflow_add-later
-overflow_add-later c =
-    let h = early _ _ _ _ _ _ _ _ (sym c.lend_records-pressed.ensures.result ∙ c.in-Went.is) in
+pub overflow_add-self : goal.overflow_add-self
+overflow_add-self c =
+    let h = early _ _ _ _ _ _ _ (sym c.lend_records.ensures.result ∙ c.in_ok-counts.was) in
     record { fits = omega arith }
