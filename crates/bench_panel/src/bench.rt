@@ -2,7 +2,7 @@
 ghost use Rattle.bench_panel.specs.Promises.{Lends};
 
 use super::changes::Change;
-use super::parts::{HeaderLine, WordLine};
+use lines::{HeaderLine, WordLine};
 use machine::Process;
 use panel::{Refused, Stroke};
 use run::Counts;

@@ -1,7 +1,7 @@
 // The lines of what a key changed, read off the bench before it and the bench after it.
 use super::bench::Bench;
-use super::parts::{RowLine, WordLine};
 use super::record::put_record;
+use lines::{RowLine, WordLine};
 use std::alloc::AllocError;
 
 // A key's byte, the bench before it and after it, and the rows of the log and of the answers after it.

@@ -8,7 +8,6 @@
 mod bench;
 mod changes;
 mod complaint;
-mod parts;
 mod record;
 mod typed;
 
