@@ -53,7 +53,8 @@ impl From<Why> for u32 {
     }
 }
 
-// A key that is refused: why, and the place in the file (R203).
+// A key that is refused: why, and the place in the file (R203). A type of its own, and not the file's over another `why`, so
+// that `?` turns a refusal of the file into one of the key: between two instances of another crate's type no `From` can stand.
 #[derive(Clone, Copy, Debug, PartialEq, Eq)]
 pub struct Refused {
     pub why: Why,
