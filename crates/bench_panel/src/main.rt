@@ -89,6 +89,7 @@ fn open_named(rt: &HostRuntime, name: &[u8]) -> Result<(), AllocError> {
 }
 
 fn main(rt: HostRuntime) -> Result<(), AllocError> {
+    // A buffer, since std fills one that is lent, and tells a name that is longer.
     let mut path = [0u8; 4096];
     match rt.arg(1, &mut path) {
         Err(error) => complain(
