@@ -1,6 +1,7 @@
 // What A2, A4 and V4 do by the kind of the row. A read has none of these stages, and goes with a compare.
 ghost use Rattle.machine.specs.Promises.{KeptNow, PutIn, SwapSaid, AfterLoss};
 
+use super::records::busy;
 use super::{Answer, Kept, Stage, Status};
 use runfile::Kind;
 
@@ -39,19 +40,9 @@ pub fn after_loss(kind: Kind, seen: u64, read_at: u16, position: u16) -> Status
     ensures { AfterLoss kind seen read_at position result }
 {
     match kind {
-        Kind::Read | Kind::Compare => Status::Busy {
-            stage: Stage::A5,
-            word: seen,
-            read_at,
-            tried_at: position,
-            answer: Some(Answer::False),
-        },
-        Kind::Advance => Status::Busy {
-            stage: Stage::A1,
-            word: 0,
-            read_at: 0,
-            tried_at: 0,
-            answer: None,
-        },
+        Kind::Read | Kind::Compare => {
+            busy(Stage::A5, seen, read_at, position, Some(Answer::False))
+        }
+        Kind::Advance => busy(Stage::A1, 0, 0, 0, None),
     }
 }

@@ -3,9 +3,10 @@ ghost use Rattle.std.specs.Prelude.{◌≡◌};
 ghost use Rattle.machine.specs.Reach.{Reach, Looked};
 ghost use Rattle.machine.specs.Promises.{WordNow, WordStored, AfterRead, FalseAt, Enterable, Entered};
 
+use super::records::busy;
 use super::said::entry_of;
 use super::{Answer, Stage, Status, Work};
-use rows::{Entries, Sought};
+use rows::{Entries, Rows, Sought};
 use runfile::{Kind, Operations, Row};
 
 // The word that row k is on, as it stands now.
@@ -29,33 +30,21 @@ pub fn store_word(operations: Operations, k: usize, words: &mut [u64], new: u64)
 pub fn after_read(row: Row, word: u64, position: u16) -> Status
     ensures { AfterRead row word position result }
 {
-    let done = |answer| Status::Busy {
-        stage: Stage::A5,
-        word,
-        read_at: position,
-        tried_at: 0,
-        answer: Some(answer),
-    };
+    let done = |answer| busy(Stage::A5, word, position, 0, Some(answer));
     let value = word::value_of(word);
     match runfile::kind_of(row) {
         Kind::Read => done(Answer::Value(value)),
         Kind::Compare if value != row.old => done(Answer::False),
-        Kind::Compare | Kind::Advance => Status::Busy {
-            stage: Stage::A2,
-            word,
-            read_at: position,
-            tried_at: 0,
-            answer: None,
-        },
+        Kind::Compare | Kind::Advance => busy(Stage::A2, word, position, 0, None),
     }
 }
 
 // The position with which a false enters the log: a lost swap, which had read old, takes that of the swap that beat it
 // (R167, R168); any other that of its A1 (R166).
 #[tactic(auto, unfolding(crate::specs::Promises::false_at))]
-fn false_at(operations: Operations, log: &Entries, work: Work) -> u32
-    requires { Looked operations.stride operations.table.now operations.count work.row log.now.numbers.now log.now.count }
-    ensures { FalseAt operations.entry.stride operations.entry.table.now operations.entry.count log.now.numbers.now log.now.count work result }
+fn false_at(operations: Operations, log: Rows, work: Work) -> u32
+    requires { Looked operations.stride operations.table.now operations.count work.row log.numbers.now log.count }
+    ensures { FalseAt operations.entry.stride operations.entry.table.now operations.entry.count log.entry.numbers.now log.entry.count work result }
 {
     let row = operations.row(usize::from(work.row));
     let read_at = u32::from(work.read_at);
@@ -87,7 +76,7 @@ pub fn enter(operations: Operations, log: &mut Entries, work: Work)
             log.insert(read);
         }
         Answer::False => {
-            let at = false_at(operations, log, work);
+            let at = false_at(operations, log.rows(), work);
             let lost = entry_of(at, work.process, work.row, work.answer);
             log.insert(lost);
         }

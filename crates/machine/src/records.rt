@@ -22,7 +22,7 @@ impl Process {
         }
     }
 
-    // The number of the open row; 0 where none is open.
+    // The number of the open row; 0 where none is open, as the definitions have it (`row_open`).
     pub fn open_row(self) -> u16
         ensures { OpenRow self.opened result }
     {

@@ -34,7 +34,8 @@ pub fn by_bit(me: u8, now: u64, kept: bool) -> Stage
     }
 }
 
-// What is returned: the answer at A6 (number 5; R116), the stored one at V5 (number 10; R125), and fail at V6 (R126).
+// What is returned: the answer at A6 (number 5; R116), the stored one at V5 (number 10; R125), and fail at V6 (R126). By the
+// stage's number, since that is what is matched (R301).
 pub fn reply_of(number: u8, answer: Option<Answer>, stored: Option<Answer>) -> Option<Answer>
     ensures { Replied number answer stored result }
 {

@@ -7,9 +7,10 @@ mod log;
 
 ghost use Rattle.std.specs.Prelude.{◌≡◌, ◌+◌, ◌*◌, ◌≤◌, length};
 ghost use Rattle.rows.specs.Buffers.{five, placed};
-ghost use Rattle.rows.specs.Promises.{Added};
+ghost use Rattle.rows.specs.Promises.{Added, FiveNumbers, Seen};
 
-// A row of the log or of the answers. Any five numbers make one: a log that is lent may hold anything.
+// A row of the log or of the answers. Any five numbers make one, the verdict's among them: a log that is lent may hold
+// anything.
 #[derive(Clone, Copy, Debug, PartialEq, Eq)]
 pub struct Entry {
     pub position: u32,
@@ -21,7 +22,7 @@ pub struct Entry {
 
 // The five numbers of a row, in the order in which they stand in a buffer (R160).
 impl From<Entry> for [u32; 5] {
-    ghost from_gives = { λ entry numbers. numbers ≡ five entry };
+    ghost from_gives = { FiveNumbers };
 
     #[tactic(auto, unfolding(crate::specs::Buffers::five))]
     fn from(entry: Entry) -> [u32; 5] {
@@ -44,7 +45,14 @@ pub struct Sought {
     pub none: u32,
 }
 
-// A lent buffer, and how many rows stand in it.
+// The rows that stand in a buffer, to be read.
+#[derive(Clone, Copy)]
+pub struct Rows<'a> {
+    pub numbers: &'a [u32],
+    pub count: usize,
+}
+
+// The rows that stand in a lent buffer, to be added to.
 #[derive(Drop)]
 pub struct Entries<'a> {
     pub numbers: &'a mut [u32],
@@ -61,6 +69,16 @@ fn write_row(buffer: &mut [u32], at: usize, entry: Entry)
 }
 
 impl Entries<'_> {
+    // The rows, to be read.
+    pub fn rows(&self) -> Rows<'_>
+        ensures { Seen self.now.numbers.now self.now.count result.numbers.now result.count }
+    {
+        Rows {
+            numbers: self.numbers,
+            count: self.count,
+        }
+    }
+
     // Adds a row behind the others: answers stand in the order in which they were given (R163).
     pub fn push(&mut self, entry: Entry)
         requires { self.old.count * 5 + 5 ≤ length self.old.numbers.now }

@@ -20,4 +20,4 @@ returns-in-Value-clause-entered c = enter_value _ _ _ _ _ _ (c.in-Some.is ∙ ap
 
 pub returns-in-False-clause-entered : goal.returns-in-False-clause-entered
 returns-in-False-clause-entered c =
-    enter_false _ _ _ _ _ (c.in-Some.is ∙ ap Some c.in-False.is) _ _ _ _ c.insert-in-False.ensures.counted c.false_at-at.ensures c.entry_of-lost.ensures c.insert-in-False.ensures.inserted
+    enter_false _ _ _ _ _ (c.in-Some.is ∙ ap Some c.in-False.is) _ _ _ _ c.insert-in-False.ensures.counted (rw (c.rows.ensures.same_count, c.rows.ensures.same_numbers) at c.false_at-at.ensures) c.entry_of-lost.ensures c.insert-in-False.ensures.inserted

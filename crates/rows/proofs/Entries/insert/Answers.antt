@@ -7,7 +7,7 @@ use Rattle.rows.proofs.Entries.insert.Goals as goal
 
 pub returns-clause-inserted : goal.returns-clause-inserted
 returns-clause-inserted c =
-    let found = c.place_of-at.ensures in
+    let found = rw (c.rows.ensures.same_count, c.rows.ensures.same_numbers) at c.place_of-at.ensures in
     let place = c.place_of-at.result in
     let count = c.args.self.now.count in
     c.write_row.ensures

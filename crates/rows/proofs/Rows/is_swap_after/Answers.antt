@@ -15,7 +15,7 @@ use Rattle.runfile.specs.OperationLaws.{names_table, names_past}
 use Rattle.rows.specs.Entries.{swap_verdict, is_swapped}
 use Rattle.rows.specs.Log.{is_swap}
 use Rattle.rows.specs.Buffers.{entry_at}
-use Rattle.rows.proofs.Entries.is_swap_after.Goals as goal
+use Rattle.rows.proofs.Rows.is_swap_after.Goals as goal
 
 module _ (stride : ℕ) (table log : List ℕ) (n w a k : ℕ) where
   abbrev found : Bool

@@ -8,7 +8,7 @@ use Rattle.runfile.specs.Operations.{rows_from}
 use Rattle.rows.specs.declared.Sought.{Sought}
 use Rattle.rows.specs.Log.{first_swap}
 use Rattle.rows.specs.Buffers.{rows_of}
-use Rattle.rows.proofs.Entries.first_swap_after.Given as goal
+use Rattle.rows.proofs.Rows.first_swap_after.Given as goal
 
 abbrev pub found_from : List Row → List ℕ → ℕ → Sought → ℕ → ℕ
 found_from operations log rows sought i = first_swap operations sought.word sought.after sought.none (drop i (rows_of rows log))
