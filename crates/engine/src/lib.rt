@@ -13,7 +13,8 @@ use rows::Entries;
 use runfile::Operations;
 
 // Where a run stands: the records, of which the first P are processes, the position of the next byte, and how many
-// rows stand in the log and in the answers.
+// rows stand in the log and in the answers. (The two counts are fields of their own wherever they stand beside a position: each
+// is used by itself, and none is handed on with the other.)
 #[derive(Clone, Copy, Debug, PartialEq, Eq)]
 pub struct Standing {
     pub processes: [Process; 16],
@@ -98,6 +99,7 @@ pub fn run_bytes(
                     let row = processes[at].open_row();
                     let k = usize::from(row);
                     let number = u8::from(stage);
+                    // The stage (R301).
                     match number {
                         // A1 (R111).
                         0 => {
@@ -106,7 +108,7 @@ pub fn run_bytes(
                         }
                         // A2 (R112).
                         1 => {
-                            let kind = runfile::kind_of(operations.row(k));
+                            let kind = operations.row(k).kind_of();
                             let turned = !word::bit_of(u32::from(me), seen);
                             let value = word::value_of(seen);
                             let process = processes[at];
@@ -128,7 +130,7 @@ pub fn run_bytes(
                         // A4: the swap, with its log row, or lost (R114, R164).
                         3 => {
                             let operation = operations.row(k);
-                            let kind = runfile::kind_of(operation);
+                            let kind = operation.kind_of();
                             let now = word_now(operations, k, words);
                             if now == seen {
                                 let found = word::value_of(seen);
@@ -184,7 +186,7 @@ pub fn run_bytes(
                         }
                         // V4 (R124).
                         9 => {
-                            let kind = runfile::kind_of(operations.row(k));
+                            let kind = operations.row(k).kind_of();
                             let process = processes[at];
                             processes[at] = Process {
                                 status: busy(Stage::V5, seen, read_at, tried_at, answer),

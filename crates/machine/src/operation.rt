@@ -32,7 +32,7 @@ pub fn after_read(row: Row, word: u64, position: u16) -> Status
 {
     let done = |answer| busy(Stage::A5, word, position, 0, Some(answer));
     let value = word::value_of(word);
-    match runfile::kind_of(row) {
+    match row.kind_of() {
         Kind::Read => done(Answer::Value(value)),
         Kind::Compare if value != row.old => done(Answer::False),
         Kind::Compare | Kind::Advance => busy(Stage::A2, word, position, 0, None),

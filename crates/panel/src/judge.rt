@@ -29,7 +29,7 @@ fn is_impossible(operations: Operations, first: u16, count: u16, process: Proces
         return false;
     };
     let row = operations.row(usize::from(k));
-    wrong_kind(runfile::kind_of(row), process)
+    wrong_kind(row.kind_of(), process)
 }
 
 // Whether one of the first `present` records cannot be.
@@ -71,7 +71,9 @@ fn is_idle_key(processes: [Process; 16], byte: u8) -> bool
     runfile::is_idle(byte, !matches!(named.status, Status::Down))
 }
 
-// Whether the record of one of the file's processes cannot be, for a file that is accepted (R231).
+// Whether the record of one of the file's processes cannot be, for a file that is accepted (R231). That it is accepted stays a clause
+// of the few that ask it: as a ghost field it would stand truncated, since a lawful byte is one of two cases, and each use would
+// have to open it.
 fn has_impossible(file: &[u8], header: Header, processes: [Process; 16]) -> bool
     requires { LawfulFile header file.now }
     ensures { result ≡ possible.any_impossible (table_of header file.now) processes 0 header.processes }

@@ -10,7 +10,7 @@ use Rattle.runfile.specs.declared.Refused.{Refused}
 use Rattle.runfile.specs.declared.Header.{Header}
 use Rattle.runfile.specs.Format.{least_head, RowSize}
 use Rattle.runfile.specs.Layout.{header_in, u32_at, word_in, row_of_table, stride_of, rows_start, schedule_start}
-use Rattle.runfile.specs.Kinds.{kind_of}
+use Rattle.runfile.specs.Kinds.{kind_numbered, kind_of}
 use Rattle.runfile.specs.Actions.{action}
 use Rattle.runfile.specs.Ups.{idle_by}
 use Rattle.runfile.specs.Operations.{count}
@@ -38,7 +38,10 @@ decides_one f room r q a b = a.result ∙ sym b.result
 pub numbers_one : (why : Refusal) (r q : ℕ) → Numbers why r → Numbers why q → r ≡ q
 numbers_one why r q a b = a.result ∙ sym b.result
 
--- `kind_of(row)`
+-- `Kind::from(number)`, and `row.kind_of()`
+abbrev pub KindNumbered : (number : ℕ) (r : Kind) → Type 0
+KindNumbered number r = r ≡ kind_numbered number
+
 abbrev pub KindRead : (row : Row) (r : Kind) → Type 0
 KindRead row r = r ≡ kind_of row
 
@@ -95,6 +98,9 @@ ByteJudged byte processes r = r ≡ bad_byte processes byte
 abbrev pub IdleJudged : (byte : ℕ) (up r : Bool) → Type 0
 IdleJudged byte up r = r ≡ idle_by (action byte) up
 
+pub kind_numbered_one : (number : ℕ) (r q : Kind) → KindNumbered number r → KindNumbered number q → r ≡ q
+kind_numbered_one number r q a b = a ∙ sym b
+
 pub kind_read_one : (row : Row) (r q : Kind) → KindRead row r → KindRead row q → r ≡ q
 kind_read_one row r q a b = a ∙ sym b
 
@@ -137,7 +143,7 @@ byte_judged_one byte processes r q a b = a ∙ sym b
 pub idle_judged_one : (byte : ℕ) (up r q : Bool) → IdleJudged byte up r → IdleJudged byte up q → r ≡ q
 idle_judged_one byte up r q a b = a ∙ sym b
 
--- `counts_of(table, stride, rows)`, `firsts_of(counts)`
+-- `operations.counts()`, `firsts_of(counts)`
 pub counted_one : (rows : List Row) (r q : List ℕ) → Counted rows r → Counted rows q → r ≡ q
 counted_one rows = sixteen_one (count rows)
 

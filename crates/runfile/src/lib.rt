@@ -17,7 +17,6 @@ ghost use Rattle.runfile.specs.Layout.{length_given};
 ghost use Rattle.runfile.specs.Refusals.{refused_text, unknown_version, out_of_range, first_of, found, no_room, count_checks, head_checks, body_checks, room_checks};
 ghost use Rattle.runfile.specs.Promises.{Decides, DecidesFile, Numbers};
 
-pub use kinds::kind_of;
 pub use operations::{Operations, firsts_of};
 use read::{has_mark, header_of};
 pub use read::{header_or_zeros, u32_at, word_at};
@@ -167,7 +166,8 @@ fn is_out_of_range(count: u8) -> bool
     !(1..=16).contains(&count)
 }
 
-// Refusals 3 to 7: what the header counts (R43 to R47).
+// Refusals 3 to 7: what the header counts (R43 to R47). Each group of checks answers with the header, as the search through the
+// table does that says what is refused (`first_of`).
 fn check_counts(header: Header) -> Result<Header, Refused>
     ensures { (f : List ℕ) → result ≡ first_of (found header f no_room) count_checks header }
 {

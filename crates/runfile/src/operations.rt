@@ -9,7 +9,8 @@ use super::format::new_place;
 use super::read::number_at;
 use super::{Header, Row};
 
-// A table of rows: its bytes, how many of them it is from one row to the next, and how many rows there are (R7).
+// A table of rows: its bytes, how many of them it is from one row to the next, and how many rows there are (R7). That all rows are
+// whole (`Lined`) is no fact of the type: to read one row, that row must be there, and no more is asked.
 #[derive(Clone, Copy)]
 pub struct Operations<'a> {
     pub table: &'a [u8],

@@ -15,7 +15,7 @@ fn bytes_at<const N: usize>(file: &[u8], at: usize) -> [u8; N]
     file[at..at + N].try_into().unwrap()
 }
 
-// Numbers of two, of four and of eight bytes, low byte first.
+// Numbers of two, of four and of eight bytes, low byte first: one read, with the contract of each.
 #[tactic(auto, using(crate::proofs::Numbers::two_bytes))]
 pub fn u16_at(file: &[u8], at: usize) -> u16
     requires { at + 2 ≤ length file.now }
@@ -75,7 +75,7 @@ pub fn header_of(file: &[u8]) -> Header
     }
 }
 
-// The header of any file: one that is too short to have a header gives zeros.
+// The header of any file: one that is too short to have a header gives zeros, as the definitions have it.
 #[tactic(auto, unfolding(crate::specs::Promises::header_or_zeros))]
 pub fn header_or_zeros(file: &[u8]) -> Header
     ensures { HeaderOrZeros file.now result }
@@ -128,7 +128,7 @@ impl Header {
     }
 
     // The length that the header gives its file (R8).
-    pub fn length_given(self) -> usize
+    pub(crate) fn length_given(self) -> usize
         ensures { result ≡ length_given self }
     {
         self.schedule_start() + usize::from(self.steps)

@@ -9,6 +9,7 @@ use super::read::number_at;
 use super::{Field, Header, Kind};
 
 // The rows of a file that has them whole: where they begin, how many bytes it is from one to the next, and how many there are (R7).
+// Their places are those in the file, which a refusal tells, and all are there; `Operations` has neither.
 #[derive(Clone, Copy)]
 pub struct Rows<'a> {
     file: &'a [u8],
