@@ -66,12 +66,14 @@ pub fn busy(stage: Stage, word: u64, read_at: u16, tried_at: u16, answer: Option
 }
 
 // Brings the first `count` processes down, all if there are not so many, and leaves the others as they were.
+#[tactic(auto, using(crate::proofs::Down::fell, crate::proofs::Down::all_fell))]
 pub fn crash_first(processes: [Process; 16], count: usize) -> [Process; 16]
     ensures { CrashedFirst processes count result }
 {
     let mut down = processes;
-    for i in 0..count.min(16) {
-        down[i].status = Status::Down;
+    let last = count.min(16);
+    for process in &mut down[..last] {
+        process.status = Status::Down;
     }
     down
 }

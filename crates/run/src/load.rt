@@ -9,7 +9,7 @@ pub fn load_words(file: &[u8], header: Header, words: &mut [u64])
     requires { word_place header.version (length words.old) ≤ length file.now }
     ensures { Loaded file.now header words.old words.new }
 {
-    for i in 0..words.len() {
-        words[i] = runfile::word_at(file, header, i);
+    for (i, word) in words.iter_mut().enumerate() {
+        *word = runfile::word_at(file, header, i);
     }
 }

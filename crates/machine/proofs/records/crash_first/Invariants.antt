@@ -1,8 +1,8 @@
--- `crash_first` meets its contract. Invariant: before turn i the first i records are down, the others as they were.
+-- `crash_first` meets its contract. Invariant: of the records that are to be brought down the first are down, the others as they were.
 use mathlib.Core.Path.{◌≡◌}
-use Rattle.std.proofs.Common.{length}
+use lib.ListN.{take}
 use Rattle.machine.specs.Records.{down_to}
 use Rattle.machine.proofs.records.crash_first.Given as goal
 
-abbrev pub invariant-loop-i : goal.invariant-loop-i
-invariant-loop-i l = (length l.down ≡ 16) × (l.down ≡ down_to l.i l.initial.down)
+abbrev pub invariant-loop-process : goal.invariant-loop-process
+invariant-loop-process l = l.process-items ≡ down_to l.process-index (take l.last l.fn.processes)

@@ -2,14 +2,14 @@
 use Rattle.run.proofs.Start.{load_turn, load_end}
 use Rattle.rows.specs.Buffers.{infront}
 use Rattle.runfile.specs.OperationLaws.{word-within}
-use lib.ListN.{length, length-set}
+use lib.ListN.{length}
 use native.Mathlib.Omega.{arith}
 use mathlib.Core.Path.{◌≡◌, refl, ◌∙◌}
 use Rattle.run.proofs.load.load_words.Goals as goal
 
 pub loop-i-init : goal.loop-i-init
 unfolding infront
-loop-i-init c = (refl, refl)
+loop-i-init c = refl
 
 pub word_at-requires : goal.word_at-requires
 word_at-requires c =
@@ -21,11 +21,10 @@ word_at-requires c =
 pub loop-i-preserved : goal.loop-i-preserved
 loop-i-preserved c =
     let a = c.args in
-    let v = c.loop-i.invariant in
-    (simp length-set v.0, load_turn a.header.version a.file.now a.words.now c.loop-i.words c.loop-i.i c.word_at.result c.loop-i-test.true v.1 c.word_at.ensures)
+    load_turn a.header.version a.file.now a.words.now c.loop-i.words c.loop-i.i c.word_at.result c.loop-i-test.true c.loop-i.invariant c.word_at.ensures
 
 pub returns : goal.returns
 returns c =
     let a = c.args in
     let e : c.loop-i.i ≡ length a.words.now = (let z = c.loop-i-test.false in let b = c.loop-i.auto.i-end in omega arith) in
-    c.loop-i.invariant.1 ∙ rw e (load_end a.header.version a.file.now a.words.now)
+    c.loop-i.invariant ∙ rw e (load_end a.header.version a.file.now a.words.now)
