@@ -20,7 +20,8 @@ impl Error for NotAKey {}
 // What a line comes to: a key, or none where there is nothing in it.
 type Entry = Result<Option<u8>, NotAKey>;
 
-// The kinds of characters in a line.
+// The kinds of characters in a line. Not those of the crate `typed`, which keeps its own to itself: there a digit is a character,
+// here it is what it is worth.
 #[derive(Clone, Copy, Debug, PartialEq, Eq)]
 enum Character {
     // A space, a tab or a carriage return.

@@ -98,6 +98,7 @@ impl<'a> Iterator for Scan<'a> {
 
     ghost remaining = { item_count items_left };
 
+    // An iterator's own step: it goes on by the index that it keeps, until there is an item.
     fn next(&mut self) -> Option<Result<Byte, Offence>> {
         while let Some(c) = self.text.get(self.at) {
             let step = step_of(self.state, self.at, *c);

@@ -56,7 +56,7 @@ fn one_line(c: u8) -> u8
     if c == b'\n' { b' ' } else { c }
 }
 
-// Puts `# `, the comment and the end of its line.
+// Puts `# `, the comment and the end of its line. By index, as the pairs.
 fn put_remark(out: &mut [u8], comment: &[u8])
     requires { 3 + length comment.now ≤ length out.old }
     ensures { out.new ≡ sets out.old 0 (remark comment.now) }
