@@ -21,7 +21,7 @@ struct Key {
     byte: u8,
 }
 
-// What it is, and what it does, by its high four bits; those that give no action do nothing (R72).
+// What it is, and what it does, by its high four bits (R301); those that give no action do nothing (R72).
 impl fmt::Display for Key {
     fn fmt<W: fmt::Write>(&self, f: &mut fmt::Formatter<W>) -> fmt::Result {
         let Key { position, byte } = *self;

@@ -58,6 +58,7 @@ pub fn run_bytes(
         count: from.answers,
     };
     for (i, &byte) in schedule.iter().enumerate() {
+        // Below 1,024, so `as` loses nothing; from an index there is no `From`.
         let position = (from.position + i) as u16;
         let me = byte % 16;
         let at = usize::from(me);

@@ -9,7 +9,8 @@ ghost use Rattle.input.specs.Promises.{Reads};
 use std::io::Read;
 
 // Reads until the buffer is full, the input ends or a read fails, and answers how many bytes stand in front. They are the next
-// that the reader had, and it has lost just those. An empty buffer is answered without a read.
+// that the reader had, and it has lost just those. An empty buffer is answered without a read. A loop, since no method of
+// std says how many bytes were had where a read fails.
 pub fn read_full<R: Read>(from: &mut R, buffer: &mut [u8]) -> usize
     ensures within { IsPrefixLen result buffer.new }
     ensures bytes { Consumes (R.remaining from.old) (R.remaining from.new) (take result buffer.new) }

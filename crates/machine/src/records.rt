@@ -43,7 +43,7 @@ impl Process {
     }
 }
 
-// The place of a stage in the list A1 to A6, V1 to V6 (R301).
+// The place of a stage in the list A1 to A6, V1 to V6 (R301), which is the number that the enum gives it.
 impl From<Stage> for u8 {
     ghost from_gives = { λ stage number. StageNumbered stage number };
 

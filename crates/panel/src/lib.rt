@@ -103,7 +103,7 @@ pub struct Table {
     pub held: usize,
 }
 
-// One key over the lent records: of more than sixteen only the first sixteen are looked at (R205, R306). It comes to the
+// One key over the lent records and buffers (R302): of more than sixteen records only the first sixteen are looked at (R205, R306). It comes to the
 // two row counts after it (R203).
 pub fn key(
     file: &[u8],

@@ -60,6 +60,7 @@ impl Rows<'_> {
         if !is_swapped(verdict) {
             return false;
         }
+        // By `as`: to an index there is no `From`.
         let row = log[at + 2] as usize;
         if row >= operations.count {
             return false;

@@ -67,7 +67,7 @@ fn run_accepted(
     run_words(file, header, &mut words[..count], log, answers)
 }
 
-// Runs a run file over the three lent buffers (R180), or refuses it and leaves them untouched (R34). How many rows stand in
+// Runs a run file over the three lent buffers (R180, R302), or refuses it and leaves them untouched (R34). How many rows stand in
 // the log and in the answers is answered (R185). Nothing is asked of the caller.
 pub fn run(
     file: &[u8],

@@ -51,7 +51,7 @@ impl Operations<'_> {
         }
     }
 
-    // Of row k alone the process, and alone the word.
+    // Of row k alone the process, and alone the word: a byte each, and `word` with a contract of its own.
     #[tactic(auto, unfolding(crate::specs::Layout::row_at))]
     fn process(self, k: usize) -> u8
         requires { HasRow self.stride self.table.now k }

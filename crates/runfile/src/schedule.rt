@@ -1,4 +1,5 @@
 // Which schedule byte offends: the test of one byte, and the search for the first that fails it (refusals 12 and 16, R52 and R56).
+// The action is a match on the high four bits, wherever it is asked (R301).
 ghost use Rattle.std.specs.Prelude.{◌≡◌, ◌+◌, ◌≤◌, length};
 ghost use Rattle.runfile.specs.Format.{longest_of_all};
 ghost use Rattle.runfile.specs.Promises.{ByteJudged, IdleJudged};

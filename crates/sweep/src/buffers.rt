@@ -95,6 +95,7 @@ pub fn sum_over_words(before: u64, words: &[u64]) -> u64
     sum
 }
 
+// By `as`: half of the number is meant.
 fn halves_of(word: u64) -> [u32; 2]
     ensures { result ≡ halves (word ∷ []) }
 {

@@ -39,7 +39,7 @@ struct Lengths {
     answers: usize,
 }
 
-// Reads the four numbers of the next record, or finds that the stream ends.
+// Reads the four numbers of the next record, or finds that the stream ends. By `as`: to a length there is no `From`.
 fn next_lengths<R: Read>(from: &mut R) -> Result<Option<Lengths>, Stop> {
     let mut head = [0u8; 16];
     match input::read_full(from, &mut head) {

@@ -10,6 +10,7 @@ const WIDTH: u32 = 32;
 const VALUES: u64 = 1 << WIDTH;
 
 #[tactic(auto, unfolding(crate::specs::Word::value_in))]
+// By `as`, here and below: a part of the word is meant.
 pub fn value_of(word: u64) -> u32
     ensures { Valued word result }
 {
