@@ -2,7 +2,7 @@
 use Rattle.std.proofs.Common.{ℕ, ◌≤◌, ◌≡◌, refl, List, length}
 use Rattle.std.specs.Prelude.{Ok, Err}
 use Rattle.machine.specs.declared.Process.{Process}
-use Rattle.run.specs.declared.Counts.{Counts}
+use Rattle.rows.specs.declared.Counts.{Counts}
 use Rattle.run.specs.Run.{room_of}
 use Rattle.panel.specs.declared.Stroke.{Stroke}
 use Rattle.panel.specs.declared.Table.{Table}

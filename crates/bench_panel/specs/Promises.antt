@@ -1,6 +1,6 @@
 -- What the program's own functions promise of a key.
 use Rattle.std.specs.Prelude.{Result}
-use Rattle.run.specs.declared.Counts.{Counts}
+use Rattle.rows.specs.declared.Counts.{Counts}
 use Rattle.panel.specs.declared.Refused.{Refused}
 use Rattle.panel.specs.declared.Stroke.{Stroke}
 use Rattle.panel.specs.Promises.{Keyed}

@@ -44,8 +44,7 @@ pub struct Bench {
     pub records: [Process; 16],
     pub words: [u64; 16],
     pub position: usize,
-    pub log: usize,
-    pub answers: usize,
+    pub counts: Counts,
 }
 
 // The panel's file, its bench, the rows themselves, and the lines of one key.
@@ -69,8 +68,7 @@ impl<'a> BenchPanel<'a> {
             records: [Process::fresh(); 16],
             words,
             position: 0,
-            log: 0,
-            answers: 0,
+            counts: Counts { log: 0, answers: 0 },
         };
         Ok(BenchPanel {
             file,
@@ -119,13 +117,10 @@ impl<'a> BenchPanel<'a> {
         let key = Stroke {
             byte,
             position,
-            log: self.bench.log,
-            answers: self.bench.answers,
+            counts: self.bench.counts,
         };
-        let counts = self.lend_records(key)?;
+        self.bench.counts = self.lend_records(key)?;
         self.bench.position = position + 1;
-        self.bench.log = counts.log;
-        self.bench.answers = counts.answers;
         Ok(())
     }
 

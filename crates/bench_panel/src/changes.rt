@@ -42,14 +42,14 @@ impl Change<'_> {
     // Puts the line of a row that has entered the log, if one has, and how many rows stand in front of it. An operation stands
     // in the log once. Nearly every row enters at the end, so the search begins there.
     fn put_logged(&self, text: &mut String) -> Result<(), AllocError> {
-        if self.after.log == self.before.log {
+        if self.after.counts.log == self.before.counts.log {
             return Ok(());
         }
         let (rows, _) = self.log.as_chunks::<5>();
         let entered = self.open_row();
         let place = rows
             .iter()
-            .take(self.after.log)
+            .take(self.after.counts.log)
             .rposition(|row| row[2] == entered)
             .unwrap_or(0);
         if let Some(numbers) = rows.get(place) {
@@ -61,11 +61,11 @@ impl Change<'_> {
 
     // Puts the line of an answer row that has been added, behind those that were there before.
     fn put_answered(&self, text: &mut String) -> Result<(), AllocError> {
-        if self.after.answers == self.before.answers {
+        if self.after.counts.answers == self.before.counts.answers {
             return Ok(());
         }
         let (rows, _) = self.answers.as_chunks::<5>();
-        if let Some(numbers) = rows.get(self.before.answers) {
+        if let Some(numbers) = rows.get(self.before.counts.answers) {
             let name = "answer";
             writeln!(text, "{}", RowLine { name, numbers })?;
         }

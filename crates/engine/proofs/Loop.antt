@@ -133,8 +133,8 @@ pub record Holding (rows : List Row) (P : ℕ) (from : Standing) (bytes words₀
   pub words_same : length words ≡ length words₀
   pub log_same : length log ≡ length log₀
   pub answers_same : length answers ≡ length answers₀
-  pub log_few : m ≤ from.log + i
-  pub answers_few : k ≤ from.answers + i
+  pub log_few : m ≤ from.counts.log + i
+  pub answers_few : k ≤ from.counts.answers + i
   pub size : length ps ≡ 16
   pub front : take P ps ≡ (state_at rows P from bytes words₀ log₀ answers₀ i).processes
   pub back : drop P ps ≡ drop P from.processes
@@ -150,8 +150,8 @@ pub record Meets (P : ℕ) (bytes : List ℕ) (i : ℕ) (log answers : List ℕ)
 
 -- before the first byte, and after the last
 module _ (rows : List Row) (P : ℕ) (from : Standing) (bytes words log answers : List ℕ) where
-  pub hold_start : length from.processes ≡ 16 → from.log * 5 ≤ length log → from.answers * 5 ≤ length answers
-      → Holding rows P from bytes words log answers 0 words log answers from.processes from.log from.answers
+  pub hold_start : length from.processes ≡ 16 → from.counts.log * 5 ≤ length log → from.counts.answers * 5 ≤ length answers
+      → Holding rows P from bytes words log answers 0 words log answers from.processes from.counts.log from.counts.answers
   unfolding state_at after_in state_lent
   hold_start size a b = record {
     done = omega arith;
@@ -165,15 +165,15 @@ module _ (rows : List Row) (P : ℕ) (from : Standing) (bytes words log answers 
     back = refl;
     holds = record {
       words_are = refl;
-      log_count = sym (length-rows_of from.log log);
-      log_is = rows_same from.log log a;
-      answers_count = sym (length-rows_of from.answers answers);
-      answers_are = rows_same from.answers answers b;
+      log_count = sym (length-rows_of from.counts.log log);
+      log_is = rows_same from.counts.log log a;
+      answers_count = sym (length-rows_of from.counts.answers answers);
+      answers_are = rows_same from.counts.answers answers b;
     };
   }
 
   pub hold_end : {i : ℕ} {words' log' answers' : List ℕ} {ps : List Process} {m k : ℕ} → Holding rows P from bytes words log answers i words' log' answers' ps m k → i ≡ length bytes
-      → Left (after rows from.position bytes (state_lent P from words log answers)) P from (length bytes) log answers (record { processes = ps; position = from.position + length bytes; log = m; answers = k }) words' log' answers'
+      → Left (after rows from.position bytes (state_lent P from words log answers)) P from (length bytes) log answers (record { processes = ps; position = from.position + length bytes; counts = record { log = m; answers = k } }) words' log' answers'
   unfolding state_at
   hold_end {i} {words'} {log'} {answers'} {ps} {m} {k} h e =
       let all : take i bytes ≡ bytes = take_all i bytes (omega arith) in

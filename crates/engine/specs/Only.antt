@@ -6,12 +6,12 @@ use Rattle.engine.specs.declared.Standing.{Standing}
 use Rattle.engine.specs.declared.Part.{Part}
 use Rattle.engine.specs.Part.{Runs}
 
-same_standing : (r q : Standing) → r.processes ≡ q.processes → r.position ≡ q.position → r.log ≡ q.log → r.answers ≡ q.answers → r ≡ q
+same_standing : (r q : Standing) → r.processes ≡ q.processes → r.position ≡ q.position → r.counts.log ≡ q.counts.log → r.counts.answers ≡ q.counts.answers → r ≡ q
 same_standing r q a b c d =
-    ap (λ ps. record { processes = ps; position = r.position; log = r.log; answers = r.answers }) a
-    ∙ ap (λ t. record { processes = q.processes; position = t; log = r.log; answers = r.answers }) b
-    ∙ ap (λ m. record { processes = q.processes; position = q.position; log = m; answers = r.answers }) c
-    ∙ ap (λ k. record { processes = q.processes; position = q.position; log = q.log; answers = k }) d
+    ap (λ ps. record { processes = ps; position = r.position; counts = r.counts }) a
+    ∙ ap (λ t. record { processes = q.processes; position = t; counts = r.counts }) b
+    ∙ ap (λ m. record { processes = q.processes; position = q.position; counts = record { log = m; answers = r.counts.answers } }) c
+    ∙ ap (λ k. record { processes = q.processes; position = q.position; counts = record { log = q.counts.log; answers = k } }) d
 
 pub runs_one : (part : Part) (operations : Operations) (bytes words log answers : List ℕ) (r q : Standing) (words' words'' log' log'' answers' answers'' : List ℕ)
     → Runs part operations bytes words log answers r words' log' answers' → Runs part operations bytes words log answers q words'' log'' answers''

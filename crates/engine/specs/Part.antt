@@ -23,7 +23,7 @@ pub record Holds (s : State) (log answers : List ℕ) (m k : ℕ) (words' log' a
 
 -- the state that is lent: the words, the first P records, and the rows that the counts give
 unfoldable pub state_lent : ℕ → Standing → (words log answers : List ℕ) → State
-state_lent P from words log answers = record { words = words; processes = take P from.processes; log = rows_of from.log log; answers = rows_of from.answers answers }
+state_lent P from words log answers = record { words = words; processes = take P from.processes; log = rows_of from.counts.log log; answers = rows_of from.counts.answers answers }
 
 -- the rows of the table that is lent
 abbrev pub rows_lent : Operations → List Row
@@ -37,15 +37,15 @@ pub record Runnable (part : Part) (operations : Operations) (bytes words log ans
   pub present : part.present ≤ 16
   pub lawful : (i : ℕ) → i < length bytes → LawfulByte part.present (get_or bytes i 0)
   pub early : part.from.position + length bytes ≤ 1024
-  pub log_room : (part.from.log + length bytes) * 5 ≤ length log
-  pub answers_room : (part.from.answers + length bytes) * 5 ≤ length answers
+  pub log_room : (part.from.counts.log + length bytes) * 5 ≤ length log
+  pub answers_room : (part.from.counts.answers + length bytes) * 5 ≤ length answers
   pub sane : (p : ℕ) → p < part.present → Sane (rows_lent operations) p (get_or part.from.processes p nobody)
 
 -- what is left: the first P records are the state's, the others as they were; and the buffers hold the state
 pub record Left (s : State) (P : ℕ) (from : Standing) (size : ℕ) (log answers : List ℕ) (r : Standing) (words' log' answers' : List ℕ) : Type 0 where
   pub processes_are : r.processes ≡ s.processes ++ drop P from.processes
   pub position_is : r.position ≡ from.position + size
-  pub holds : Holds s log answers r.log r.answers words' log' answers'
+  pub holds : Holds s log answers r.counts.log r.counts.answers words' log' answers'
 
 -- the state after the bytes, each at its position (R70 to R173)
 abbrev pub Runs : (part : Part) (operations : Operations) (bytes words log answers : List ℕ) (r : Standing) (words' log' answers' : List ℕ) → Type 0

@@ -9,18 +9,16 @@ use machine::{
     Process, Stage, Status, Work, after_loss, after_read, busy, by_bit, by_checkpoint, crash_first,
     enter, entry_of, keep, put_in, recovered_of, reply_of, store_word, swap_says, word_now,
 };
-use rows::Entries;
+use rows::{Counts, Entries};
 use runfile::Operations;
 
 // Where a run stands: the records, of which the first P are processes, the position of the next byte, and how many
-// rows stand in the log and in the answers. (The two counts are fields of their own wherever they stand beside a position: each
-// is used by itself, and none is handed on with the other.)
+// rows stand in the log and in the answers.
 #[derive(Clone, Copy, Debug, PartialEq, Eq)]
 pub struct Standing {
     pub processes: [Process; 16],
     pub position: usize,
-    pub log: usize,
-    pub answers: usize,
+    pub counts: Counts,
 }
 
 // What a part of a schedule is run with, beside what is lent: how many of the records are processes, and where the run
@@ -51,11 +49,11 @@ pub fn run_bytes(
     let mut processes = from.processes;
     let mut log = Entries {
         numbers: log,
-        count: from.log,
+        count: from.counts.log,
     };
     let mut answers = Entries {
         numbers: answers,
-        count: from.answers,
+        count: from.counts.answers,
     };
     for (i, &byte) in schedule.iter().enumerate() {
         // Below 1,024, so `as` loses nothing; from an index there is no `From`.
@@ -229,7 +227,9 @@ pub fn run_bytes(
     Standing {
         processes,
         position: from.position + schedule.len(),
-        log: log.count,
-        answers: answers.count,
+        counts: Counts {
+            log: log.count,
+            answers: answers.count,
+        },
     }
 }

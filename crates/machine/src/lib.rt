@@ -45,7 +45,8 @@ pub enum Answer {
 
 // All that is volatile stands here, so a crash cannot forget to clear any of it (R83, R300). A row is announced by
 // three stores (R101 to R103): an idle process makes the first, and is then at N2 and at N3, where the others are to
-// be made. In the midst of work the stage, the word read and the rest stand side by side in the case itself (R300).
+// be made. In the midst of work the stage, the word read and
+// the rest stand side by side in the case, as the step rules name them, stage by stage.
 #[derive(Clone, Copy, Debug, PartialEq, Eq)]
 pub enum Status {
     Down,

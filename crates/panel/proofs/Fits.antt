@@ -34,8 +34,8 @@ both_fine (Ok g) next h e = ((g, refl), e)
 record Unrefused (h : Header) (f : List ℕ) (t : Table) (room : Room) (k : Stroke) : Type 0 where
   words : ltb room.words h.words ≡ false
   records : ltb t.held h.processes ≡ false
-  log : ltb room.log (k.log * 5 + 5) ≡ false
-  answers : ltb room.answers (k.answers * 5 + 5) ≡ false
+  log : ltb room.log (k.counts.log * 5 + 5) ≡ false
+  answers : ltb room.answers (k.counts.answers * 5 + 5) ≡ false
   position : ltb 1023 k.position ≡ false
   possible : any_impossible (table_of h f) t.processes 0 h.processes ≡ false
   byte : bad_byte h.processes k.byte ≡ false
@@ -47,8 +47,8 @@ unrefused g f t room k h e =
     let b = both_fine (roomy g t.held room k) (sound g f t.processes k) h e in
     let r1 = passed (ltb room.words g.words) _ _ _ b.0.1 in
     let r2 = passed (ltb t.held g.processes) _ _ _ r1.1 in
-    let r3 = passed (ltb room.log (k.log * 5 + 5)) _ _ _ r2.1 in
-    let r4 = passed (ltb room.answers (k.answers * 5 + 5)) _ _ _ r3.1 in
+    let r3 = passed (ltb room.log (k.counts.log * 5 + 5)) _ _ _ r2.1 in
+    let r4 = passed (ltb room.answers (k.counts.answers * 5 + 5)) _ _ _ r3.1 in
     let s1 = passed (ltb 1023 k.position) _ _ _ b.1 in
     let s2 = passed (any_impossible (table_of g f) t.processes 0 g.processes) _ _ _ s1.1 in
     let s3 = passed (bad_byte g.processes k.byte) _ _ _ s2.1 in
@@ -77,8 +77,8 @@ module _ (f : List ℕ) (t : Table) (room : Room) (k : Stroke) (h : Header) (e :
       record {
         lawful = lawful_file f h accepted;
         words_room = ltb-false room.words h.words u.words;
-        log_room = ltb-false room.log (k.log * 5 + 5) u.log;
-        answers_room = ltb-false room.answers (k.answers * 5 + 5) u.answers;
+        log_room = ltb-false room.log (k.counts.log * 5 + 5) u.log;
+        answers_room = ltb-false room.answers (k.counts.answers * 5 + 5) u.answers;
         early = ltb-false 1023 k.position u.position;
         possible = u.possible;
         action = u.byte;

@@ -41,7 +41,7 @@ module _ (file : List ℕ) (records : List Process) (words log answers : List �
   pub joined : (t : Table) (left : Standing) (records' : List Process) (words' log' answers' : List ℕ)
       → t.held ≡ min (length records) 16 → t.processes ≡ laid t.held records blank
       → PressedOn file t words log answers key (Ok left) words' log' answers' → records' ≡ laid t.held left.processes records
-      → Keyed file records words log answers key (done left.log left.answers) records' words' log' answers'
+      → Keyed file records words log answers key (done left.counts.log left.counts.answers) records' words' log' answers'
   joined t left records' words' log' answers' held filled = over t held filled (Ok left) records' words' log' answers'
 
   -- refused: the lent records are as they were

@@ -143,7 +143,7 @@ module _ (f : List ℕ) (records : List Process) (words log answers : List ℕ) 
   state_alike : (h : Header) → h.processes ≤ n → stepped h f in_table k ≡ stepped h f lends k
   unfolding stepped state_of
   state_alike h few =
-      ap (λ ps. step (table_of h f) k.position k.byte (record { words = words; processes = ps; log = rows_of k.log log; answers = rows_of k.answers answers }))
+      ap (λ ps. step (table_of h f) k.position k.byte (record { words = words; processes = ps; log = rows_of k.counts.log log; answers = rows_of k.counts.answers answers }))
       (take-laid records blank n held h.processes few)
 
   all_there : (h : Header) → h.processes ≤ n → length (stepped h f lends k).processes ≡ h.processes

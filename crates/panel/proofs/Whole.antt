@@ -47,7 +47,7 @@ module _ (f : List ℕ) (t : Table) (words log answers : List ℕ) (k : Stroke) 
 
     -- the key as a part of a schedule, from where a run stands before it
     abbrev part_of : ℕ → Part
-    part_of P = record { present = P; from = record { processes = t.processes; position = k.position; log = k.log; answers = k.answers } }
+    part_of P = record { present = P; from = record { processes = t.processes; position = k.position; counts = k.counts } }
 
     lawful_key : (i : ℕ) → i < 1 → LawfulByte h.processes (get_or (k.byte ∷ []) i 0)
     lawful_key zero b = lawful_byte h.processes k.byte ft.action

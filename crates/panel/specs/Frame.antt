@@ -59,13 +59,13 @@ pub record Frame (h : Header) (f : List ℕ) (l : Lent) (k : Stroke) (p : Presse
   pub other_words : (w : ℕ) → w ≢ (row_numbered (table_of h f) (row_open (get_or l.processes (named k.byte) nobody).opened)).word → get_or p.words w 0 ≡ get_or l.words w 0
   pub all_words : length p.words ≡ length l.words
   -- numbers behind the rows, and the answers that were there (R206)
-  pub log_beyond : (i : ℕ) → k.log * 5 + 5 ≤ i → get_or p.log i 0 ≡ get_or l.log i 0
+  pub log_beyond : (i : ℕ) → k.counts.log * 5 + 5 ≤ i → get_or p.log i 0 ≡ get_or l.log i 0
   pub all_log : length p.log ≡ length l.log
-  pub answers_beyond : (i : ℕ) → k.answers * 5 + 5 ≤ i → get_or p.answers i 0 ≡ get_or l.answers i 0
-  pub answers_before : (i : ℕ) → i < k.answers * 5 → get_or p.answers i 0 ≡ get_or l.answers i 0
+  pub answers_beyond : (i : ℕ) → k.counts.answers * 5 + 5 ≤ i → get_or p.answers i 0 ≡ get_or l.answers i 0
+  pub answers_before : (i : ℕ) → i < k.counts.answers * 5 → get_or p.answers i 0 ≡ get_or l.answers i 0
   pub all_answers : length p.answers ≡ length l.answers
   -- a crash or a wake: only records change (R134)
-  pub only_steps : (action k.byte ≡ steps → ⊥) → (p.outcome ≡ done k.log k.answers) × (p.words ≡ l.words) × (p.log ≡ l.log) × (p.answers ≡ l.answers)
+  pub only_steps : (action k.byte ≡ steps → ⊥) → (p.outcome ≡ done k.counts.log k.counts.answers) × (p.words ≡ l.words) × (p.log ≡ l.log) × (p.answers ≡ l.answers)
   -- and it changes the record of the process named: one that was awake is down, one that was down is awake (R226)
   pub struck : Strikes k.byte (get_or l.processes (named k.byte) nobody) (get_or p.processes (named k.byte) nobody)
 
@@ -153,27 +153,27 @@ module _ (h : Header) (f : List ℕ) (records : List Process) (words log answers
           wake = λ e. ((awake-down _).0 (subst (λ a. idle_by a was ≡ false) e ft.not_idle), awake_then (below wakes e refl) ∙ ap (λ a. up_as a true was) e);
         }
 
-    counts : (length (stepped h f l k).log ≤ k.log + 1) × (length (stepped h f l k).answers ≤ k.answers + 1)
+    counts : (length (stepped h f l k).log ≤ k.counts.log + 1) × (length (stepped h f l k).answers ≤ k.counts.answers + 1)
     unfolding stepped state_of
     counts =
         let g = grows (table_of h f) k.position k.byte s in
         let a = g.log_one in
         let b = g.answers_one in
-        let c = length-rows_of k.log log in
-        let d = length-rows_of k.answers answers in
+        let c = length-rows_of k.counts.log log in
+        let d = length-rows_of k.counts.answers answers in
         (omega arith, omega arith)
 
     -- words and rows after a crash or a wake
-    untouched : (action k.byte ≡ steps → ⊥) → ((carried h f l k).outcome ≡ done k.log k.answers) × ((carried h f l k).words ≡ words) × ((carried h f l k).log ≡ log) × ((carried h f l k).answers ≡ answers)
+    untouched : (action k.byte ≡ steps → ⊥) → ((carried h f l k).outcome ≡ done k.counts.log k.counts.answers) × ((carried h f l k).words ≡ words) × ((carried h f l k).log ≡ log) × ((carried h f l k).answers ≡ answers)
     unfolding stepped state_of
     untouched n =
         let u = one.only_steps (table_of h f) k.position k.byte s n in
         let a = ft.log_room in
         let b = ft.answers_room in (
-          ap₂ done (ap length u.log ∙ length-rows_of k.log log) (ap length u.answers ∙ length-rows_of k.answers answers),
+          ap₂ done (ap length u.log ∙ length-rows_of k.counts.log log) (ap length u.answers ∙ length-rows_of k.counts.answers answers),
           u.words,
-          ap (λ es. infront (flat es) log) u.log ∙ sym (rows_same k.log log (omega arith)),
-          ap (λ es. infront (flat es) answers) u.answers ∙ sym (rows_same k.answers answers (omega arith)),
+          ap (λ es. infront (flat es) log) u.log ∙ sym (rows_same k.counts.log log (omega arith)),
+          ap (λ es. infront (flat es) answers) u.answers ∙ sym (rows_same k.counts.answers answers (omega arith)),
         )
 
     same_length : length (stepped h f l k).words ≡ length words
@@ -181,26 +181,26 @@ module _ (h : Header) (f : List ℕ) (records : List Process) (words log answers
     same_length = (grows (table_of h f) k.position k.byte s).words
 
     -- the answers that were there stand in front of a new one
-    kept_answers : (stepped h f l k).answers ≡ rows_of k.answers answers ++ drop k.answers (stepped h f l k).answers
+    kept_answers : (stepped h f l k).answers ≡ rows_of k.counts.answers answers ++ drop k.counts.answers (stepped h f l k).answers
     unfolding stepped state_of
     kept_answers =
         let u = (step (table_of h f) k.position k.byte s).answers in
-        sym (take-append-drop k.answers u)
-        ∙ ap (λ es. es ++ drop k.answers u) (ap (λ n. take n u) (sym (length-rows_of k.answers answers)) ∙ (grows (table_of h f) k.position k.byte s).answers_kept)
+        sym (take-append-drop k.counts.answers u)
+        ∙ ap (λ es. es ++ drop k.counts.answers u) (ap (λ n. take n u) (sym (length-rows_of k.counts.answers answers)) ∙ (grows (table_of h f) k.position k.byte s).answers_kept)
 
-    before : (i : ℕ) → i < k.answers * 5 → get_or (carried h f l k).answers i 0 ≡ get_or answers i 0
+    before : (i : ℕ) → i < k.counts.answers * 5 → get_or (carried h f l k).answers i 0 ≡ get_or answers i 0
     unfolding infront
     before i g =
-        let more = drop k.answers (stepped h f l k).answers in
+        let more = drop k.counts.answers (stepped h f l k).answers in
         let rest = drop (length (flat (stepped h f l k).answers)) answers in
-        let old = flat (rows_of k.answers answers) in
-        let many : length old ≡ k.answers * 5 = length-flat (rows_of k.answers answers) ∙ ap (λ n. n * 5) (length-rows_of k.answers answers) in
+        let old = flat (rows_of k.counts.answers answers) in
+        let many : length old ≡ k.counts.answers * 5 = length-flat (rows_of k.counts.answers answers) ∙ ap (λ n. n * 5) (length-rows_of k.counts.answers answers) in
         let room = ft.answers_room in
-        ap (λ ns. get_or (ns ++ rest) i 0) (ap flat kept_answers ∙ flat_append (rows_of k.answers answers) more)
+        ap (λ ns. get_or (ns ++ rest) i 0) (ap flat kept_answers ∙ flat_append (rows_of k.counts.answers answers) more)
         ∙ get_or-append (old ++ flat more) rest 0 i (let e = length-append old (flat more) in omega arith)
         ∙ get_or-append old (flat more) 0 i (omega arith)
-        ∙ ap (λ ns. get_or ns i 0) (flat-rows_of k.answers answers (omega arith))
-        ∙ get_or-take (k.answers * 5) answers i 0 g
+        ∙ ap (λ ns. get_or ns i 0) (flat-rows_of k.counts.answers answers (omega arith))
+        ∙ get_or-take (k.counts.answers * 5) answers i 0 g
 
     pub frame_carried : Frame h f l k (carried h f l k)
     frame_carried = record {

@@ -147,7 +147,7 @@ refusal (Err r) = number_of_why r.why
 
 -- a key: the byte, its position, and the two row counts
 abbrev key_of : (byte position log answers : ℕ) → Stroke
-key_of byte position log answers = record { byte = byte; position = position; log = log; answers = answers }
+key_of byte position log answers = record { byte = byte; position = position; counts = record { log = log; answers = answers } }
 
 -- everything is wrong, and one thing after the other is put right: a damaged file; no word; one record; room for no log row; a log count past the
 -- buffer; room for no answer; position 1,024; a record that cannot be; bytes that are no action, of which the last two are a crash of one that is down

@@ -15,7 +15,7 @@ use Rattle.rows.specs.Buffers.{rows_of, flat, infront}
 use Rattle.machine.specs.declared.Process.{Process}
 use Rattle.machine.specs.Records.{nobody, is_awake}
 use Rattle.machine.specs.Machine.{State, step}
-use Rattle.run.specs.declared.Counts.{Counts}
+use Rattle.rows.specs.declared.Counts.{Counts}
 use Rattle.run.specs.Run.{room_of}
 use Rattle.panel.specs.declared.Stroke.{Stroke}
 use Rattle.panel.specs.declared.Table.{Table}
@@ -66,8 +66,8 @@ abbrev pub roomy : Header → (held : ℕ) → Room → Stroke → Verdict
 roomy h held room k =
     cond (ltb room.words h.words) (refuses (Run WordsRoom) 0)
     (cond (ltb held h.processes) (refuses (Run WordsRoom) 0)
-    (cond (ltb room.log (k.log * 5 + 5)) (refuses (Run LogRoom) 0)
-    (cond (ltb room.answers (k.answers * 5 + 5)) (refuses (Run AnswersRoom) 0) (Ok h))))
+    (cond (ltb room.log (k.counts.log * 5 + 5)) (refuses (Run LogRoom) 0)
+    (cond (ltb room.answers (k.counts.answers * 5 + 5)) (refuses (Run AnswersRoom) 0) (Ok h))))
 
 -- the byte is a crash of a process that is down by its lent record, or a wake of one that is awake (R226)
 abbrev pub idle_key : List Process → (byte : ℕ) → Bool
@@ -98,7 +98,7 @@ verdict_of f t room k = judged_as (file_refusal f) f t room k
 
 -- the state that is lent: the first P records, the words, and the rows that the counts give; and the state after the byte (R202)
 unfoldable pub state_of : ℕ → Lent → Stroke → State
-state_of P l k = record { words = l.words; processes = take P l.processes; log = rows_of k.log l.log; answers = rows_of k.answers l.answers }
+state_of P l k = record { words = l.words; processes = take P l.processes; log = rows_of k.counts.log l.log; answers = rows_of k.counts.answers l.answers }
 
 unfoldable pub stepped : Header → List ℕ → Lent → Stroke → State
 stepped h f l k = step (table_of h f) k.position k.byte (state_of h.processes l k)
@@ -143,8 +143,8 @@ pub record Leaves (p : Pressed) (r : Outcome) (processes : List Process) (words 
 pub record Fit (h : Header) (f : List ℕ) (processes : List Process) (room : Room) (k : Stroke) : Type 0 where
   pub lawful : LawfulFile h f
   pub words_room : h.words ≤ room.words
-  pub log_room : k.log * 5 + 5 ≤ room.log
-  pub answers_room : k.answers * 5 + 5 ≤ room.answers
+  pub log_room : k.counts.log * 5 + 5 ≤ room.log
+  pub answers_room : k.counts.answers * 5 + 5 ≤ room.answers
   pub early : k.position ≤ 1023
   pub possible : any_impossible (table_of h f) processes 0 h.processes ≡ false
   pub action : bad_byte h.processes k.byte ≡ false

@@ -17,7 +17,7 @@ Keyed file records words log answers key = Leaves (keyed file records words log 
 -- `press(file, table, words, log, answers, key)`: the counts and the records of where the run stands after the key; of a refusal, the table's
 abbrev pub outcome_of : Result Standing Refused → Outcome
 outcome_of (Err r) = Err r
-outcome_of (Ok left) = done left.log left.answers
+outcome_of (Ok left) = done left.counts.log left.counts.answers
 
 abbrev pub processes_of : List Process → Result Standing Refused → List Process
 processes_of processes (Err r) = processes

@@ -39,7 +39,7 @@ use Rattle.panel.specs.Key.{keyed}
 
 -- the key after one that came to this: the counts are handed on; after a refusal none is pressed
 abbrev pub key_after : List ℕ → (t byte : ℕ) → Pressed → Outcome → Pressed
-key_after f t byte p (Ok counts) = keyed f p.processes p.words p.log p.answers (record { byte = byte; position = t; log = counts.log; answers = counts.answers })
+key_after f t byte p (Ok counts) = keyed f p.processes p.words p.log p.answers (record { byte = byte; position = t; counts = counts })
 key_after f t byte p (Err r) = p
 
 -- key after key, the first of them at position t
@@ -127,7 +127,7 @@ module _ (f words log answers : List ℕ) (h : Header) (fine : refusal_of f (roo
 
   module _ (t byte : ℕ) (s : State) (g : Good t s) (in-schedule : t < h.steps) (fit : LawfulByte P byte) (present : named byte < P) (calm : idle_by (action byte) (is_awake (proc_at (named byte) s).status) ≡ false) where
     abbrev k : Stroke
-    k = record { byte = byte; position = t; log = length s.log; answers = length s.answers }
+    k = record { byte = byte; position = t; counts = record { log = length s.log; answers = length s.answers } }
 
     abbrev lends : Lent
     lends = lent (held s).processes (held s).words (held s).log (held s).answers

@@ -53,10 +53,10 @@ fn room_verdict(header: Header, held: usize, room: Room, key: Stroke) -> Result<
     if held < usize::from(header.processes) {
         return Err(Refused::whole(Why::Run(Refusal::WordsRoom)));
     }
-    if room.log / 5 <= key.log {
+    if room.log / 5 <= key.counts.log {
         return Err(Refused::whole(Why::Run(Refusal::LogRoom)));
     }
-    if room.answers / 5 <= key.answers {
+    if room.answers / 5 <= key.counts.answers {
         return Err(Refused::whole(Why::Run(Refusal::AnswersRoom)));
     }
     Ok(header)

@@ -24,8 +24,7 @@ use std::fmt;
 pub struct Stroke {
     pub byte: u8,
     pub position: usize,
-    pub log: usize,
-    pub answers: usize,
+    pub counts: Counts,
 }
 
 // Why a key is refused.
@@ -120,8 +119,5 @@ pub fn key(
     let left = press(file, table, words, log, answers, key)?;
     let n = table.held;
     records[..n].copy_from_slice(&left.processes[..n]);
-    Ok(Counts {
-        log: left.log,
-        answers: left.answers,
-    })
+    Ok(left.counts)
 }

@@ -28,8 +28,7 @@ pub fn press(
         from: Standing {
             processes,
             position: key.position,
-            log: key.log,
-            answers: key.answers,
+            counts: key.counts,
         },
     };
     let operations = Operations::of(file, header);

@@ -45,6 +45,13 @@ pub struct Sought {
     pub none: u32,
 }
 
+// How many rows stand in the log and in the answers.
+#[derive(Clone, Copy, Debug, PartialEq, Eq)]
+pub struct Counts {
+    pub log: usize,
+    pub answers: usize,
+}
+
 // The rows that stand in a buffer, to be read.
 #[derive(Clone, Copy)]
 pub struct Rows<'a> {

@@ -55,7 +55,7 @@ replicate_take (suc P) zero p h = absurd (omega arith)
 replicate_take (suc P) (suc n) p h = ap (λ l. p ∷ l) (replicate_take P n p (omega arith))
 
 abbrev at_first : Process → Standing
-at_first p = record { processes = replicate 16 p; position = 0; log = 0; answers = 0 }
+at_first p = record { processes = replicate 16 p; position = 0; counts = record { log = 0; answers = 0 } }
 
 abbrev whole_of : (P : ℕ) → Process → Part
 whole_of P p = record { present = P; from = at_first p }
@@ -111,9 +111,9 @@ module _ (h : Header) (f words log answers : List ℕ) (l : Lawful h f (room_of 
 
       pub told : (r : Standing) (words' log' answers' : List ℕ)
           → Runs (whole_of P p) o (take (length f - schedule-at) (drop schedule-at f)) loaded' log answers r words' log' answers'
-          → Holds (end_of h f) log answers r.log r.answers words' log' answers'
+          → Holds (end_of h f) log answers r.counts.log r.counts.answers words' log' answers'
       told r words' log' answers' left =
-          subst (λ s. Holds s log answers r.log r.answers words' log' answers') the_end
+          subst (λ s. Holds s log answers r.counts.log r.counts.answers words' log' answers') the_end
           (rw (sa, pa, la, size, idle, part_all f (schedule_start h)) at left.holds)
 
   end-length : length (end_of h f).words ≡ h.words

@@ -9,7 +9,7 @@ use Rattle.runfile.specs.Operations.{words_of, table_of}
 use Rattle.runfile.specs.Refusals.{refusal_of}
 use Rattle.rows.specs.Buffers.{flat, infront}
 use Rattle.machine.specs.Machine.{State, begin, after}
-use Rattle.run.specs.declared.Counts.{Counts}
+use Rattle.rows.specs.declared.Counts.{Counts}
 
 -- the state at the end of the file's schedule (R181, R241)
 unfoldable pub end_of : Header → List ℕ → State

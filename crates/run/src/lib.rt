@@ -11,14 +11,8 @@ ghost use Rattle.run.specs.Run.{end_of, room_of, Ends, EndsAs};
 use engine::{Part, Standing};
 pub use load::load_words;
 use machine::Process;
+pub use rows::Counts;
 use runfile::{Header, Operations, Refused, Room};
-
-// How many rows stand in the log and in the answers.
-#[derive(Clone, Copy, Debug, PartialEq, Eq)]
-pub struct Counts {
-    pub log: usize,
-    pub answers: usize,
-}
 
 // Runs a file that is not refused over as many words as it has: the start words are loaded, and the schedule, lent on
 // as the tail of the file (R304), runs over them from position 0 on, with all idle (R181).
@@ -38,17 +32,13 @@ fn run_words(
         from: Standing {
             processes: [Process::fresh(); 16],
             position: 0,
-            log: 0,
-            answers: 0,
+            counts: Counts { log: 0, answers: 0 },
         },
     };
     let operations = Operations::of(file, header);
     let start = header.schedule_start();
     let left = engine::run_bytes(operations, &file[start..], words, log, answers, part);
-    Counts {
-        log: left.log,
-        answers: left.answers,
-    }
+    left.counts
 }
 
 // Runs a file that is not refused: only the first W numbers of the words buffer are lent on (R182).

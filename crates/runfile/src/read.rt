@@ -7,7 +7,7 @@ ghost use Rattle.runfile.specs.Promises.{FourBytes, HeaderOrZeros, StartWord, St
 use super::Header;
 use super::format::{head_size, row_size, word_size};
 
-// N bytes from a place on.
+// N bytes from a place on. A place goes with its file, as the definitions have it (`u32_at f at`).
 fn bytes_at<const N: usize>(file: &[u8], at: usize) -> [u8; N]
     requires { at + N ≤ length file.now }
     ensures { result ≡ take N (drop at file.now) }
@@ -53,6 +53,7 @@ pub fn number_at(file: &[u8], at: usize, stride: usize) -> u32
     }
 }
 
+// That a header is there is a clause of the three that ask it: the definitions read it from the file (`header_in f`), not from eleven bytes.
 #[tactic(auto, using(crate::proofs::Numbers::mark_stands))]
 pub fn has_mark(file: &[u8]) -> bool
     requires { least_head ≤ length file.now }

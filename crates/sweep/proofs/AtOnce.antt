@@ -1,6 +1,9 @@
 -- The sum over several numbers at once is the sum over them one by one: powers, products and their sums may all be taken by the modulus.
-use Rattle.std.proofs.Common.{rules, ◌≡◌, ℕ, ◌+◌, ◌*◌, ◌/◌, ◌%◌, ◌<◌, ◌≤◌, List, [], ◌∷◌, ◌++◌, length, get_or, take, drop, sym, refl, ap, ◌∙◌, mod-lt, mod-eq_of_lt, mul_assoc, mul_comm, add-mul, arith, take-append-drop, drop_of_length-le, ext_get_or}
+use Rattle.std.proofs.Common.{rules, ◌≡◌, ℕ, zero, suc, ◌+◌, ◌*◌, ◌/◌, ◌%◌, ◌<◌, ◌≤◌, List, [], ◌∷◌, ◌++◌, length, get_or, take, drop, sym, refl, ap, ◌∙◌, mod-lt, mod-eq_of_lt, mul_assoc, mul_comm, add-mul, arith, take-append-drop, drop_of_length-le, ext_get_or}
+use Rattle.std.specs.Simd.{first_chunks}
 use Rattle.std.proofs.lemmas.List.{drop_more}
+use lib.ListN.{length-drop}
+use lib.Seq.{drop-drop, length-take-le}
 use native.Mathlib.Nat.{mod-add-div, add-mod-mod, add-mul-mod_self_left}
 use Rattle.sweep.specs.Sum.{factor, modulus, taken, sum_from, sum_over, halves}
 use Rattle.sweep.specs.Blocks.{power, weighed, Weighs}
@@ -71,13 +74,42 @@ block_taken s block r long b w =
     ∙ ap (λ x. (s * 1328542826 + x) % modulus) (sym w.0)
     ∙ add-mod-mod (s * 1328542826) r modulus
 
+-- the numbers of blocks, and behind them the rest
+abbrev pub all_of : List (List ℕ) → List ℕ → List ℕ
+all_of [] rest = rest
+all_of (block ∷ blocks) rest = block ++ all_of blocks rest
+
+-- the blocks that a list begins with, and what is behind them, are the list
+chunked : (k : ℕ) (xs : List ℕ) → all_of (first_chunks 8 k xs) (drop (k * 8) xs) ≡ xs
+chunked zero xs = refl
+chunked (suc k) xs =
+    let behind : drop (suc k * 8) xs ≡ drop (k * 8) (drop 8 xs) = (let n : suc k * 8 ≡ 8 + k * 8 = omega arith in ap (λ n. drop n xs) n ∙ sym (drop-drop (k * 8) 8 xs)) in
+    ap (λ l. take 8 xs ++ all_of (first_chunks 8 k (drop 8 xs)) l) behind ∙ ap (λ l. take 8 xs ++ l) (chunked k (drop 8 xs)) ∙ take-append-drop 8 xs
+
+pub all_there : (xs rest : List ℕ) (blocks : List (List ℕ)) → blocks ≡ first_chunks 8 (length xs / 8) xs → rest ≡ drop (length xs / 8 * 8) xs → all_of blocks rest ≡ xs
+all_there xs rest blocks front back = rw (front, back) (chunked (length xs / 8) xs)
+
+-- each of them has eight numbers
+long_block : (k : ℕ) (xs : List ℕ) (i : ℕ) → i < k → k * 8 ≤ length xs → length (get_or (first_chunks 8 k xs) i []) ≡ 8
+long_block zero xs i inside room = absurd (omega arith)
+long_block (suc k) xs zero inside room = length-take-le 8 xs (omega arith)
+long_block (suc k) xs (suc i) inside room = long_block k (drop 8 xs) i (omega arith) (simp length-drop (omega arith))
+
+pub long_there : (xs : List ℕ) (blocks : List (List ℕ)) (i : ℕ) → blocks ≡ first_chunks 8 (length xs / 8) xs → i < length blocks → length blocks ≡ length xs / 8 → length (get_or blocks i []) ≡ 8
+long_there xs blocks i front inside many = rw front (long_block (length xs / 8) xs i (omega arith) (omega arith))
+
 -- before each turn the sum over what is left is the whole sum: a turn takes a block of eight numbers
-pub eight_more : (s all : ℕ) (rest block behind : List ℕ) (r : ℕ) → sum_from s rest ≡ all → block ≡ take 8 rest → behind ≡ drop 8 rest → length block ≡ 8 → s < modulus → Weighs block r → sum_from ((s * 1328542826 + r) % modulus) behind ≡ all
-eight_more s all rest block behind r kept front back long b w =
-    ap (λ x. sum_from x behind) (sym (block_taken s block r long b w))
-    ∙ sym (sum_append s block behind)
-    ∙ ap (sum_from s) (ap (λ l. l ++ behind) front ∙ ap (λ l. take 8 rest ++ l) back ∙ take-append-drop 8 rest)
+pub block_more : (s all : ℕ) (blocks : List (List ℕ)) (rest block : List ℕ) (i r : ℕ) → sum_from s (all_of (drop i blocks) rest) ≡ all → i < length blocks → block ≡ get_or blocks i [] → length block ≡ 8 → s < modulus
+    → Weighs block r → sum_from ((s * 1328542826 + r) % modulus) (all_of (drop (i + 1) blocks) rest) ≡ all
+block_more s all blocks rest block i r kept inside is long b w =
+    ap (λ x. sum_from x (all_of (drop (i + 1) blocks) rest)) (sym (block_taken s block r long b w))
+    ∙ sym (sum_append s block (all_of (drop (i + 1) blocks) rest))
+    ∙ ap (λ l. sum_from s (l ++ all_of (drop (i + 1) blocks) rest)) is
+    ∙ ap (λ l. sum_from s (all_of l rest)) (sym (drop_more blocks i [] inside))
     ∙ kept
+
+pub blocks_over : (s all : ℕ) (blocks : List (List ℕ)) (rest : List ℕ) (i : ℕ) → sum_from s (all_of (drop i blocks) rest) ≡ all → length blocks ≤ i → sum_from s rest ≡ all
+blocks_over s all blocks rest i kept past = rw (drop_of_length-le blocks past) at kept
 
 -- or one number, or one word, which is two numbers
 module _ (xs : List ℕ) (i : ℕ) where

@@ -73,10 +73,9 @@ pub fn sum_over(before: u64, buffer: &[u32]) -> u64
     ensures { Summed before buffer.now result }
 {
     let mut sum = before % MODULUS;
-    let mut rest = buffer;
-    while let Some((block, behind)) = rest.split_first_chunk::<8>() {
+    let (blocks, rest) = buffer.as_chunks::<8>();
+    for block in blocks {
         sum = (sum * F8 + weight_of(block)) % MODULUS;
-        rest = behind;
     }
     for &number in rest {
         sum = (sum * F1 + u64::from(number)) % MODULUS;

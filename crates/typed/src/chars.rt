@@ -11,16 +11,18 @@ pub enum Class {
     Other,
 }
 
-#[tactic(auto, unfolding(crate::specs::Chars::class_of, crate::specs::Chars::is_digit, crate::specs::Chars::is_blank, crate::specs::Chars::within))]
-pub fn class_of(c: u8) -> Class
-    ensures { result ≡ class_of c }
-{
-    match c {
-        b'0'..=b'9' | b'A'..=b'F' | b'a'..=b'f' => Class::Digit,
-        b' ' | b'\t' | b'\r' => Class::Blank,
-        b'\n' => Class::NewLine,
-        b'#' => Class::Hash,
-        _ => Class::Other,
+impl From<u8> for Class {
+    ghost from_gives = { λ c class. class ≡ class_of c };
+
+    #[tactic(auto, unfolding(crate::specs::Chars::class_of, crate::specs::Chars::is_digit, crate::specs::Chars::is_blank, crate::specs::Chars::within))]
+    fn from(c: u8) -> Class {
+        match c {
+            b'0'..=b'9' | b'A'..=b'F' | b'a'..=b'f' => Class::Digit,
+            b' ' | b'\t' | b'\r' => Class::Blank,
+            b'\n' => Class::NewLine,
+            b'#' => Class::Hash,
+            _ => Class::Other,
+        }
     }
 }
 

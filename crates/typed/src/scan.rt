@@ -8,7 +8,7 @@ ghost use Rattle.std.proofs.lemmas.List.Edits.{sets};
 ghost use Rattle.typed.specs.Reading.{act, offence, checked_of, reading_of, items_in, items_left, spot, bytes_in};
 
 use super::Slip;
-use super::chars::{Class, byte_of, class_of};
+use super::chars::{Class, byte_of};
 
 // Between two bytes; in a comment; or after the first digit of a byte: that digit, and its index.
 #[derive(Clone, Copy, Debug, PartialEq, Eq)]
@@ -54,7 +54,7 @@ pub enum Step {
 fn step_of(state: State, at: usize, c: u8) -> Step
     ensures { result ≡ act state at c }
 {
-    match (state, class_of(c)) {
+    match (state, Class::from(c)) {
         (State::Between, Class::Digit) => Step::To(State::Half(c, at)),
         (State::Between, Class::Blank | Class::NewLine) | (State::Comment, Class::NewLine) =>
             Step::To(State::Between),

@@ -25,7 +25,7 @@ pub fn flips_of(word: u64) -> u32
     (word / VALUES) as u32
 }
 
-// The flip bit of a process (R15).
+// The flip bit of a process (R15). That it is below 16 is a clause, here and below: a type of such numbers would ask more of callers.
 pub fn bit_of(process: u32, word: u64) -> bool
     requires { process < 16 }
     ensures { Flipped process word result }
