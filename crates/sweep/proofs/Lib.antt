@@ -1,1 +1,2 @@
 pub mod AtOnce
+pub mod Onward

@@ -2,6 +2,7 @@
 ghost use Rattle.std.specs.Prelude.{◌≡◌, [], ◌∷◌};
 ghost use Rattle.sweep.specs.Sum.{halves, Summed, SummedWords};
 ghost use Rattle.sweep.specs.Blocks.{Weighs};
+ghost use Rattle.sweep.specs.Filled.{next_of_32, next_of_64, Filled};
 
 // The sum's factor and modulus, the largest prime below 2^32; and the powers of the factor, each by the modulus.
 const MODULUS: u64 = 4294967291;
@@ -28,23 +29,32 @@ const HALF: u64 = 1 << 32;
 // A number of a lent buffer.
 pub trait Number: Copy {
     // The number that is greater by one; after the greatest comes 0.
-    fn wrapping_next(self) -> Self;
+    ghost next: { Self → Self };
+
+    fn wrapping_next(self) -> Self
+        ensures { result ≡ next self };
 }
 
 impl Number for u32 {
+    ghost next = { next_of_32 };
+
     fn wrapping_next(self) -> u32 {
         self.wrapping_add(1)
     }
 }
 
 impl Number for u64 {
+    ghost next = { next_of_64 };
+
     fn wrapping_next(self) -> u64 {
         self.wrapping_add(1)
     }
 }
 
 // Fills a buffer with numbers that rise by one, from the given one on.
-pub fn fill<T: Number>(buffer: &mut [T], first: T) {
+pub fn fill<T: Number>(buffer: &mut [T], first: T)
+    ensures { Filled T.next first buffer.old buffer.new }
+{
     let mut number = first;
     for place in buffer.iter_mut() {
         *place = number;
