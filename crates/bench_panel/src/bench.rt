@@ -1,14 +1,14 @@
 // The panel over a run file that is accepted: what it has between two keys, and how it takes one.
-ghost use Rattle.bench_panel.specs.Promises.{Lends};
+ghost use Rattle.bench_panel.specs.Promises.{Lends, Stays};
 
 use super::changes::Change;
-use lines::{HeaderLine, WordLine};
+use lines::{HeaderLine, Text, WordLine};
 use machine::Process;
 use panel::{Refused, Stroke};
 use run::Counts;
 use runfile::Header;
-use std::alloc::{AllocError, Global};
 use std::fmt;
+use std::fmt::Write;
 use std::io::Print;
 
 // Room for 1,024 rows of a kind: a key at a position over 1,023 is refused, and a key adds one row at most.
@@ -31,8 +31,8 @@ impl fmt::Display for Key {
             0 => write!(f, "step {q}"),
             1 => write!(f, "crash {q}"),
             2 => write!(f, "wake {q}"),
-            15 => f.write_str("crash all"),
-            _ => f.write_str("none"),
+            3..=14 => f.write_str("none"),
+            _ => f.write_str("crash all"),
         }
     }
 }
@@ -52,54 +52,55 @@ pub struct Bench {
 pub struct BenchPanel<'a> {
     file: &'a [u8],
     bench: Bench,
-    log: Vec<u32>,
-    answers: Vec<u32>,
-    text: String,
+    log: [u32; ROOM],
+    answers: [u32; ROOM],
+    text: Text<'a>,
 }
 
 impl<'a> BenchPanel<'a> {
     // All processes idle, nothing logged and nothing answered.
-    pub fn new(
-        alloc: Global,
-        file: &'a [u8],
-        words: [u64; 16],
-    ) -> Result<BenchPanel<'a>, AllocError> {
+    pub fn new(file: &'a [u8], words: [u64; 16], text: Text<'a>) -> BenchPanel<'a> {
         let bench = Bench {
             records: [Process::fresh(); 16],
             words,
             position: 0,
             counts: Counts { log: 0, answers: 0 },
         };
-        Ok(BenchPanel {
+        BenchPanel {
             file,
             bench,
-            log: vec![in alloc; 0u32; ROOM]?,
-            answers: vec![in alloc; 0u32; ROOM]?,
-            text: String::new(alloc),
-        })
+            log: [0; ROOM],
+            answers: [0; ROOM],
+            text,
+        }
     }
 
-    // Writes the lines in one call, and has none left. Nobody is left to tell when the output is closed, so the answer of the
-    // call is not looked at.
+    // Writes the lines in one call, and has none left.
     fn write(&mut self, to: &impl Print) {
-        let _ = to.write_all(self.text.as_bytes());
+        self.text.write(to);
         self.text.clear();
     }
 
-    // Writes the header, and the words that the file starts from.
-    pub fn show_start(&mut self, to: &impl Print, header: Header) -> Result<(), AllocError> {
+    // Puts the line of the header, and of each word that the file starts from.
+    fn put_start(&mut self, header: Header) -> fmt::Result {
         writeln!(self.text, "{}", HeaderLine(header))?;
         let count = usize::from(header.words);
         for (number, &word) in self.bench.words.iter().take(count).enumerate() {
             writeln!(self.text, "{}", WordLine { number, word })?;
         }
-        self.write(to);
         Ok(())
+    }
+
+    // Writes the header, and the words that the file starts from.
+    pub fn show_start(&mut self, to: &impl Print, header: Header) {
+        let _ = self.put_start(header);
+        self.write(to);
     }
 
     // Lends the bench's own records and words, and the rows, to `panel::key` for one key.
     fn lend_records(&mut self, key: Stroke) -> Result<Counts, Refused>
-        ensures { Lends self.old key result self.new }
+        ensures lends { Lends self.old key result self.new }
+        ensures stays { Stays self.old self.new }
     {
         panel::key(
             self.file,
@@ -124,25 +125,30 @@ impl<'a> BenchPanel<'a> {
         Ok(())
     }
 
-    // Carries out a key, and writes its lines: the first, and then the refusal, or what changed.
-    pub fn press(&mut self, to: &impl Print, byte: u8) -> Result<(), AllocError> {
+    // Carries out a key, and puts its lines: the first, and then the refusal, or what changed.
+    fn put_key(&mut self, byte: u8) -> fmt::Result {
         let before = self.bench;
         let position = before.position;
+        let outcome = self.carry_out(byte);
         writeln!(self.text, "{}", Key { position, byte })?;
-        match self.carry_out(byte) {
-            Err(refused) => writeln!(self.text, "{refused}")?,
+        match outcome {
+            Err(refused) => writeln!(self.text, "{refused}"),
             Ok(()) => {
                 let change = Change {
                     byte,
                     before,
                     after: self.bench,
-                    log: self.log.as_slice(),
-                    answers: self.answers.as_slice(),
+                    log: &self.log,
+                    answers: &self.answers,
                 };
-                change.put(&mut self.text)?;
+                change.put(&mut self.text)
             }
         }
+    }
+
+    // Carries out a key, and writes its lines.
+    pub fn press(&mut self, to: &impl Print, byte: u8) {
+        let _ = self.put_key(byte);
         self.write(to);
-        Ok(())
     }
 }

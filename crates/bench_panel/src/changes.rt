@@ -1,8 +1,9 @@
 // The lines of what a key changed, read off the bench before it and the bench after it.
 use super::bench::Bench;
 use super::record::put_record;
-use lines::{RowLine, WordLine};
-use std::alloc::AllocError;
+use lines::{RowLine, Text, WordLine};
+use std::fmt;
+use std::fmt::Write;
 
 // A key's byte, the bench before it and after it, and the rows of the log and of the answers after it.
 #[derive(Clone, Copy)]
@@ -15,7 +16,7 @@ pub struct Change<'a> {
 }
 
 impl Change<'_> {
-    fn put_records(&self, text: &mut String) -> Result<(), AllocError> {
+    fn put_records(&self, text: &mut Text<'_>) -> fmt::Result {
         let pairs = self.before.records.iter().zip(&self.after.records);
         for (q, (&before, &after)) in pairs.enumerate() {
             put_record(text, q, before, after)?;
@@ -23,7 +24,7 @@ impl Change<'_> {
         Ok(())
     }
 
-    fn put_words(&self, text: &mut String) -> Result<(), AllocError> {
+    fn put_words(&self, text: &mut Text<'_>) -> fmt::Result {
         let pairs = self.before.words.iter().zip(&self.after.words);
         for (number, (&before, &word)) in pairs.enumerate() {
             if before != word {
@@ -41,7 +42,7 @@ impl Change<'_> {
 
     // Puts the line of a row that has entered the log, if one has, and how many rows stand in front of it. An operation stands
     // in the log once. Nearly every row enters at the end, so the search begins there.
-    fn put_logged(&self, text: &mut String) -> Result<(), AllocError> {
+    fn put_logged(&self, text: &mut Text<'_>) -> fmt::Result {
         if self.after.counts.log == self.before.counts.log {
             return Ok(());
         }
@@ -60,7 +61,7 @@ impl Change<'_> {
     }
 
     // Puts the line of an answer row that has been added, behind those that were there before.
-    fn put_answered(&self, text: &mut String) -> Result<(), AllocError> {
+    fn put_answered(&self, text: &mut Text<'_>) -> fmt::Result {
         if self.after.counts.answers == self.before.counts.answers {
             return Ok(());
         }
@@ -73,14 +74,14 @@ impl Change<'_> {
     }
 
     // Puts the lines of everything that the byte changed; where that is nothing, a line that says so.
-    pub fn put(&self, text: &mut String) -> Result<(), AllocError> {
+    pub fn put(&self, text: &mut Text<'_>) -> fmt::Result {
         let begun = text.len();
         self.put_records(text)?;
         self.put_words(text)?;
         self.put_logged(text)?;
         self.put_answered(text)?;
         if text.len() == begun {
-            text.push_str("nothing\n")?;
+            text.write_str("nothing\n")?;
         }
         Ok(())
     }

@@ -1,6 +1,7 @@
 // What the panel says on standard error where it cannot begin: what failed, and why, in the system's words.
-use std::alloc::{AllocError, Global};
+use lines::Text;
 use std::env::FillError;
+use std::fmt::Write;
 use std::io::{Error, Print};
 
 // Why an argument was not had.
@@ -11,16 +12,14 @@ pub fn reason_of(error: FillError) -> &'static str {
     }
 }
 
-// Says that something failed, and why. What failed may be a name that is no text. Nobody is left to tell when the output is
-// closed, so the answer of the write is not looked at.
-pub fn complain(alloc: Global, to: &impl Print, what: &[u8], why: &str) -> Result<(), AllocError> {
-    let mut line = Vec::new(alloc);
-    line.extend_from_slice(what)?;
-    line.extend_from_slice(b": ")?;
-    line.extend_from_slice(why.as_bytes())?;
-    line.push(b'\n')?;
-    let _ = to.write_all(line.as_slice());
-    Ok(())
+// Says that something failed, and why. What failed may be a name that is no text. There is room for a name of 4,096 bytes and a
+// reason of 128.
+pub fn complain(to: &impl Print, what: &[u8], why: &str) {
+    let mut out = [0; 4352];
+    let mut line = Text::new(&mut out);
+    line.put(what);
+    let _ = writeln!(line, ": {why}");
+    line.write(to);
 }
 
 // The system's words alone: behind them std puts the number of the error in brackets.
@@ -32,12 +31,11 @@ fn without_number(said: &str) -> &str {
 }
 
 // Likewise, where a call of the system failed.
-pub fn complain_of(
-    alloc: Global,
-    to: &impl Print,
-    what: &[u8],
-    error: Error,
-) -> Result<(), AllocError> {
-    let said = format!(in alloc; "{error}")?;
-    complain(alloc, to, what, without_number(said.as_str()))
+pub fn complain_of(to: &impl Print, what: &[u8], error: Error) {
+    let mut out = [0; 128];
+    let mut said = Text::new(&mut out);
+    let _ = write!(said, "{error}");
+    if let Ok(words) = std::str::from_utf8(said.as_bytes()) {
+        complain(to, what, without_number(words));
+    }
 }

@@ -15,8 +15,8 @@ ghost use Rattle.runfile.specs.Lawful.{LawfulFile};
 
 use bench::BenchPanel;
 use complaint::{complain, complain_of, reason_of};
+use lines::Text;
 use runfile::Header;
-use std::alloc::{AllocError, Global};
 use std::fs::File;
 use std::io::{Print, Read};
 use std::rt::Env;
@@ -33,67 +33,58 @@ fn start_words(file: &[u8], header: Header) -> [u64; 16]
 }
 
 // Does what line after line asks for. After 2^64 - 1 of them the panel is closed, since every Rattle program ends.
-fn take_lines<R: Read>(
-    keys: &mut R,
-    to: &impl Print,
-    mut panel: BenchPanel<'_>,
-) -> Result<(), AllocError> {
+fn take_lines<R: Read>(keys: &mut R, to: &impl Print, panel: &mut BenchPanel<'_>) {
     for entry in Typed::new(keys).take(usize::MAX) {
         match entry {
             Ok(None) => {}
-            Ok(Some(byte)) => panel.press(to, byte)?,
+            Ok(Some(byte)) => panel.press(to, byte),
             Err(no_key) => {
                 let _ = println!(to; "{no_key}");
             }
         }
     }
-    Ok(())
 }
 
 // Judges the file, as the panel does at each key (R221), and is the panel over it.
-fn open<R: Read>(
-    alloc: Global,
-    keys: &mut R,
-    to: &impl Print,
-    file: &[u8],
-) -> Result<(), AllocError> {
+fn open<R: Read>(keys: &mut R, to: &impl Print, file: &[u8]) {
     match runfile::check_file(file) {
         Err(refused) => {
             let _ = println!(to; "{refused}");
-            Ok(())
         }
         Ok(header) => {
             let words = start_words(file, header);
-            let mut panel = BenchPanel::new(alloc, file, words)?;
-            panel.show_start(to, header)?;
-            take_lines(keys, to, panel)
+            // Room for the lines of a key, whatever it changes: a first line of at most 22 bytes; seven of at most 176 together for
+            // each of sixteen processes; one of 30 for each of sixteen words; a log row of 37 and an answer row of 32. That is
+            // 3,387 bytes.
+            let mut out = [0; 4096];
+            let mut panel = BenchPanel::new(file, words, Text::new(&mut out));
+            panel.show_start(to, header);
+            take_lines(keys, to, &mut panel);
         }
     }
 }
 
 // Opens the run file of this name, and is the panel over it. A name is text; one that is not is refused.
-fn open_named(rt: &HostRuntime, name: &[u8]) -> Result<(), AllocError> {
-    let alloc = rt.alloc();
+fn open_named(rt: &HostRuntime, name: &[u8]) {
     let Ok(path) = std::str::from_utf8(name) else {
-        return complain(alloc, &rt.stderr(), name, "the name is not UTF-8");
+        return complain(&rt.stderr(), name, "the name is not UTF-8");
     };
     match File::open(rt, path) {
-        Err(error) => complain_of(alloc, &rt.stderr(), name, error),
+        Err(error) => complain_of(&rt.stderr(), name, error),
         Ok(mut from) => {
             let mut file = [0u8; runfile::ENOUGH_BYTES];
             let n = input::read_file(&mut from, &mut file);
             drop(from);
-            open(alloc, &mut rt.reader(), rt, &file[..n])
+            open(&mut rt.reader(), rt, &file[..n]);
         }
     }
 }
 
-fn main(rt: HostRuntime) -> Result<(), AllocError> {
+fn main(rt: HostRuntime) {
     // A buffer, since std fills one that is lent, and tells a name that is longer.
     let mut path = [0u8; 4096];
     match rt.arg(1, &mut path) {
         Err(error) => complain(
-            rt.alloc(),
             &rt.stderr(),
             b"panel: the run file's name",
             reason_of(error),

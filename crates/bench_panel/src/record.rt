@@ -1,7 +1,8 @@
 // The lines of what a key changed in one process's record. A line is put where what it shows is another than before.
+use lines::Text;
 use machine::{Answer, Process, Stage, Status};
-use std::alloc::AllocError;
 use std::fmt;
+use std::fmt::Write;
 
 // The open row, as a line shows it.
 #[derive(Clone, Copy, Debug, PartialEq, Eq)]
@@ -58,16 +59,16 @@ fn name_of(status: Status) -> &'static str {
 
 // The records of process q before the key and after it, and the text in which their lines stand.
 #[derive(Drop)]
-struct Pair<'a> {
-    text: &'a mut String,
+struct Pair<'a, 'b> {
+    text: &'a mut Text<'b>,
     q: usize,
     before: Process,
     after: Process,
 }
 
-impl Pair<'_> {
+impl Pair<'_, '_> {
     // Puts the line of what a record has under a name, where it is another than before.
-    fn put<T, F>(&mut self, name: &str, of: F) -> Result<(), AllocError>
+    fn put<T, F>(&mut self, name: &str, of: F) -> fmt::Result
     where
         T: PartialEq + fmt::Display + Drop,
         F: Fn(Process) -> T,
@@ -84,12 +85,7 @@ impl Pair<'_> {
 }
 
 // Puts the lines of process q: its record before the key, and after it. What A2 keeps is a bit and a value (R112).
-pub fn put_record(
-    text: &mut String,
-    q: usize,
-    before: Process,
-    after: Process,
-) -> Result<(), AllocError> {
+pub fn put_record(text: &mut Text<'_>, q: usize, before: Process, after: Process) -> fmt::Result {
     let mut pair = Pair {
         text,
         q,

@@ -1,10 +1,15 @@
 // The program: a run file comes in on standard input, and its outcome goes out as lines of text (R190).
 #![tactic(auto)]
 
-use lines::Lines;
-use std::alloc::AllocError;
+use lines::{Lines, Text};
+use std::fmt::Write;
 
-fn main(rt: HostRuntime) -> Result<(), AllocError> {
+fn main(rt: HostRuntime) {
+    // Room for every outcome. The longest lines: `run` 19 bytes; `word` 30 (value and flip bits up to 4,294,967,295 each), at most
+    // 16 times; `log` 29 and `answer` 32 (a position below 1,024, a process below 16, a row below 512, one digit, a value up to
+    // 4,294,967,295), each at most 1,024 times. That is 62,963 bytes. Declared
+    // first, since behind the others it would be filled with zeros twice.
+    let mut out = [0u8; 65536];
     let mut room = [0u8; runfile::ENOUGH_BYTES];
     let n = input::read_file(&mut rt.reader(), &mut room);
     let file = &room[..n];
@@ -21,8 +26,7 @@ fn main(rt: HostRuntime) -> Result<(), AllocError> {
         log: &log,
         answers: &answers,
     };
-    let text = format!(in rt.alloc(); "{lines}\n")?;
-    // In one call. Nobody is left to tell when the output is closed.
-    let _ = rt.write_all(text.as_bytes());
-    Ok(())
+    let mut text = Text::new(&mut out);
+    let _ = write!(text, "{lines}\n");
+    text.write(&rt);
 }

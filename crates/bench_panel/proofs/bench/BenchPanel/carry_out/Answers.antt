@@ -5,5 +5,5 @@ use Rattle.bench_panel.proofs.bench.BenchPanel.carry_out.Goals as goal
 
 pub overflow_add-self : goal.overflow_add-self
 overflow_add-self c =
-    let h = early _ _ _ _ _ _ _ (sym c.lend_records.ensures.result ∙ c.in_ok-self.was) in
+    let h = early _ _ _ _ _ _ _ (sym c.lend_records.ensures.lends.result ∙ c.in_ok-self.was) in
     record { fits = omega arith }
