@@ -1,7 +1,7 @@
 -- The contracts of the public functions, and that each leaves no second outcome. A contract of one equation, or of one with a bound beside it for the
 -- caller's arithmetic, is that under a name, so that a caller rewrites with it as it stands.
 use Rattle.std.specs.Prelude.{ℕ, ◌<◌, ◌≡◌, Bool, cond, List, ltb, length, drop, Result}
-use Rattle.std.proofs.Common.{sym, ◌∙◌}
+use Rattle.std.proofs.Common.{sym, subst, ◌∙◌}
 use Rattle.runfile.specs.declared.Room.{Room}
 use Rattle.runfile.specs.declared.Row.{Row}
 use Rattle.runfile.specs.declared.Kind.{Kind}
@@ -130,6 +130,13 @@ schedule_start_one h r q a b = a.0 ∙ sym b.0
 
 pub header_or_zeros_one : (f : List ℕ) (r q : Header) → HeaderOrZeros f r → HeaderOrZeros f q → r ≡ q
 header_or_zeros_one f r q a b = a ∙ sym b
+
+-- what std promises of `usize::from(x)`, that it is x, is this of a byte and of a number of two bytes
+pub index8_std : (x r : ℕ) → x < 256 → r ≡ x → Index8 x r
+index8_std x r b e = (e, subst (λ n. n < 256) (sym e) b)
+
+pub index16_std : (x r : ℕ) → x < 65536 → r ≡ x → Index16 x r
+index16_std x r b e = (e, subst (λ n. n < 65536) (sym e) b)
 
 pub index8_one : (x r q : ℕ) → Index8 x r → Index8 x q → r ≡ q
 index8_one x r q a b = a.0 ∙ sym b.0
