@@ -1,5 +1,5 @@
 // The panel over a run file that is accepted: what it has between two keys, and how it takes one.
-ghost use Rattle.bench_panel.specs.Promises.{Lends, Stays};
+ghost use Rattle.bench_panel.specs.Promises.{Carried, Lends, Stays};
 
 use super::changes::Change;
 use lines::{HeaderLine, Text, WordLine};
@@ -113,7 +113,9 @@ impl<'a> BenchPanel<'a> {
     }
 
     // Carries out a key, at the next position. Where it is refused the bench stays as it is.
-    fn carry_out(&mut self, byte: u8) -> Result<(), Refused> {
+    fn carry_out(&mut self, byte: u8) -> Result<(), Refused>
+        ensures { Carried self.old result self.new }
+    {
         let position = self.bench.position;
         let key = Stroke {
             byte,

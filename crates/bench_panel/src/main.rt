@@ -45,22 +45,27 @@ fn take_lines<R: Read>(keys: &mut R, to: &impl Print, panel: &mut BenchPanel<'_>
     }
 }
 
+// The panel over a file that is accepted. Not part of `main`, so that a panel that does not begin has no room on the stack for it.
+#[inline(never)]
+fn start<R: Read>(keys: &mut R, to: &impl Print, file: &[u8], header: Header)
+    requires { LawfulFile header file.now }
+{
+    let words = start_words(file, header);
+    // Room for the lines of a key, whatever it changes: a first line of at most 22 bytes; seven of at most 176 together for each of
+    // sixteen processes; one of 30 for each of sixteen words; a log row of 37 and an answer row of 32. That is 3,387 bytes.
+    let mut out = [0; 4096];
+    let mut panel = BenchPanel::new(file, words, Text::new(&mut out));
+    panel.show_start(to, header);
+    take_lines(keys, to, &mut panel);
+}
+
 // Judges the file, as the panel does at each key (R221), and is the panel over it.
 fn open<R: Read>(keys: &mut R, to: &impl Print, file: &[u8]) {
     match runfile::check_file(file) {
         Err(refused) => {
             let _ = println!(to; "{refused}");
         }
-        Ok(header) => {
-            let words = start_words(file, header);
-            // Room for the lines of a key, whatever it changes: a first line of at most 22 bytes; seven of at most 176 together for
-            // each of sixteen processes; one of 30 for each of sixteen words; a log row of 37 and an answer row of 32. That is
-            // 3,387 bytes.
-            let mut out = [0; 4096];
-            let mut panel = BenchPanel::new(file, words, Text::new(&mut out));
-            panel.show_start(to, header);
-            take_lines(keys, to, &mut panel);
-        }
+        Ok(header) => start(keys, to, file, header),
     }
 }
 

@@ -62,8 +62,12 @@ impl<'a> Text<'a> {
     }
 }
 
+// What is written is put, as far as there is room, and no write fails.
 impl fmt::Write for Text<'_> {
+    ghost write_str_gives = { λ t bytes t'. Behind t.end t.room.now bytes t'.end t'.room.now };
+
     fn write_str(&mut self, s: &str) -> fmt::Result
+        ensures put { Behind self.old.end self.old.room.now s.now self.new.end self.new.room.now }
         ensures goes_on { IsOk result }
     {
         self.put(s.as_bytes());

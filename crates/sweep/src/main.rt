@@ -94,7 +94,8 @@ impl<'a> Bench<'a> {
     }
 }
 
-// Goes through the stream, and writes each outcome in one call. A stream that never ends is left after 2^32 - 1 records, since every Rattle program ends.
+// Goes through the stream, and writes each outcome in one call. A stream that never ends is left after 2^32 - 1 records, since every
+// Rattle program ends.
 fn sweep<R: Read>(from: &mut R, to: &impl Print, bench: &mut Bench<'_>) -> Result<(), Damaged> {
     for _ in 0..u32::MAX {
         let Some(lengths) = next_lengths(from)? else {
