@@ -47,10 +47,7 @@ fn take_lines<R: Read>(keys: &mut R, to: &impl Print, panel: &mut BenchPanel<'_>
 
 // The panel over a file that is accepted. Not part of `main`, so that a panel that does not begin has no room on the stack for it.
 #[inline(never)]
-fn start<R: Read>(keys: &mut R, to: &impl Print, file: &[u8], header: Header)
-    requires { LawfulFile header file.now }
-{
-    let words = start_words(file, header);
+fn start<R: Read>(keys: &mut R, to: &impl Print, file: &[u8], header: Header, words: [u64; 16]) {
     // Room for the lines of a key, whatever it changes: a first line of at most 22 bytes; seven of at most 176 together for each of
     // sixteen processes; one of 30 for each of sixteen words; a log row of 37 and an answer row of 32. That is 3,387 bytes.
     let mut out = [0; 4096];
@@ -65,7 +62,10 @@ fn open<R: Read>(keys: &mut R, to: &impl Print, file: &[u8]) {
         Err(refused) => {
             let _ = println!(to; "{refused}");
         }
-        Ok(header) => start(keys, to, file, header),
+        Ok(header) => {
+            let words = start_words(file, header);
+            start(keys, to, file, header, words);
+        }
     }
 }
 

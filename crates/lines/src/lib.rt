@@ -1,5 +1,5 @@
 // The lines of an outcome (R190 to R196), for every program that prints one, or a part of one: each is a value that prints itself,
-// with no newline behind it (R196).
+// with no newline behind it (R196). `Text` is what a program makes them in.
 //
 // What one line says is promised (`specs/Text.antt`). Which lines an outcome has is not: of `Lines` no more is promised than that
 // nothing goes wrong, and what it prints is held against an independent program's text by the comparison of `second/`.

@@ -7,8 +7,8 @@ use std::fmt::Write;
 fn main(rt: HostRuntime) {
     // Room for every outcome. The longest lines: `run` 19 bytes; `word` 30 (value and flip bits up to 4,294,967,295 each), at most
     // 16 times; `log` 29 and `answer` 32 (a position below 1,024, a process below 16, a row below 512, one digit, a value up to
-    // 4,294,967,295), each at most 1,024 times. That is 62,963 bytes. It is declared first, since behind the others it would be
-    // filled with zeros twice.
+    // 4,294,967,295), each at most 1,024 times. That is 62,963 bytes. The room is declared first, since an array behind
+    // the others is filled with zeros twice.
     let mut out = [0u8; 65536];
     let mut room = [0u8; runfile::ENOUGH_BYTES];
     let n = input::read_file(&mut rt.reader(), &mut room);

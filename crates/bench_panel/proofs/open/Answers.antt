@@ -3,5 +3,5 @@ use Rattle.std.proofs.Common.{sym, ◌∙◌}
 use Rattle.runfile.proofs.Lawful.{lawful_file}
 use Rattle.bench_panel.proofs.open.Goals as goal
 
-pub start-requires : goal.start-requires
-start-requires g c = lawful_file _ _ (sym c.check_file.ensures ∙ c.in-Ok.is)
+pub start_words-words-requires : goal.start_words-words-requires
+start_words-words-requires g c = lawful_file _ _ (sym c.check_file.ensures ∙ c.in-Ok.is)
