@@ -114,7 +114,7 @@ impl<'a> BenchPanel<'a> {
 
     // Carries out a key, at the next position. Where it is refused the bench stays as it is.
     fn carry_out(&mut self, byte: u8) -> Result<(), Refused>
-        ensures { Carried self.old result self.new }
+        ensures { Carried self.old byte result self.new }
     {
         let position = self.bench.position;
         let key = Stroke {
